@@ -1,0 +1,28 @@
+// Words of a book: four bytes each, lowest first.
+ghost use mathlib.Core.Path.{_≡_};
+ghost use Prim.Native.Nat.{ℕ, _+_, _*_, _/_, _%_, _^_, _<_, _≤_};
+ghost use lib.ListN.{length, drop};
+ghost use Rattle.std.specs.Options.{Cases};
+ghost use Rattle.words.specs.Words.{firstWord, field as fieldOf};
+
+// The next word and what follows it; None where fewer than four bytes are left.
+pub fn next_word(bytes: &[u8]) -> Option<(u32, &[u8])>
+    ensures { λ r. ⌜ Cases r (length (now (bytes .entry)) < 4) (λ x. (4 ≤ length (now (bytes .entry))) × (x .0 ≡ firstWord (now (bytes .entry))) × (now (x .1) ≡ drop 4 (now (bytes .entry)))) ⌝ }
+{
+    let [a, b, c, d, rest @ ..] = bytes else {
+        return None;
+    };
+    let word = *a as u32 + 256 * (*b as u32) + 65536 * (*c as u32) + 16777216 * (*d as u32);
+    Some((word, rest))
+}
+
+// The bits of a word from bit `low` on, `width` of them.
+pub fn field(word: u32, low: u32, width: u32) -> u32
+    ensures { λ r. ⌜ r ≡ fieldOf word low width ⌝ }
+{
+    if low >= 32 {
+        return 0;
+    }
+    let high = word >> low;
+    if width >= 32 { high } else { high % (1 << width) }
+}
