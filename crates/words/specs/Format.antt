@@ -18,6 +18,10 @@ pub data Step (S : Type 0) : Type 0 where
   more : S → Step S
   ends : Step S
 
+-- go on where the test holds, else refuse
+abbrev pub check : {S : Type 0} → Bool → Refusal → Step S → Step S
+check b r next = cond b next (wrong r)
+
 -- the answer to a file: the book, or a refusal and the place of the word that it is about
 pub data Verdict (B : Type 0) : Type 0 where
   got : B → Verdict B
