@@ -11,30 +11,17 @@ use Rattle.std.specs.declared.option.Option.the-variants.{Some, None}
 use Rattle.std.specs.declared.result.Result.{Result}
 use Rattle.std.specs.declared.result.Result.the-variants.{Ok, Err}
 use Rattle.refusal.specs.declared.Refusal.{Refusal}
-use Rattle.refusal.specs.declared.Refusal.the-variants.{WrongKind, UnusedBit, OutOfRange, WrongTotal, NotRising, NoWait}
-use Rattle.words.specs.Words.{field, kind}
-use Rattle.words.specs.Format.{Step, more, ends, check, Format}
-use Rattle.words.specs.Tests.{within}
+use Rattle.refusal.specs.declared.Refusal.the-variants.{WrongTotal, NotRising, NoWait}
+use Rattle.words.specs.Words.{kind}
+use Rattle.words.specs.Format.{Step, more, ends, check, onto, Format}
+use Rattle.sitelayout.specs.declared.Entry.{Entry}
+use Rattle.sitelayout.specs.declared.Head.{Head}
 use Rattle.sitelayout.specs.declared.Mark.{Mark}
 use Rattle.sitelayout.specs.declared.Move.{Move}
+use Rattle.sitelayout.specs.OneWord.{headWord, maskWord, rewardWord, entryWord, moveWord, headOf, maskOf, rewardOf, entryOf, moveOf}
 use Rattle.sitelayout.specs.Site.{Site, taken, total, waits}
 
 -- writing
-
-abbrev pub headWord : ℕ → ℕ → ℕ → ℕ
-headWord states labels actions = 1 * 2 ^ 28 + (states + labels * 2 ^ 13 + actions * 2 ^ 18)
-
-abbrev pub maskWord : ℕ → ℕ
-maskWord mask = 2 * 2 ^ 28 + mask
-
-abbrev pub rewardWord : ℕ → ℕ → ℕ
-rewardWord raised origin = 3 * 2 ^ 28 + (raised + origin * 2 ^ 12)
-
-abbrev pub entryWord : ℕ → ℕ → ℕ → ℕ
-entryWord state action outcomes = 4 * 2 ^ 28 + (state + action * 2 ^ 12 + outcomes * 2 ^ 15)
-
-abbrev pub moveWord : Move → ℕ
-moveWord m = 5 * 2 ^ 28 + (m .target + m .weight * 2 ^ 12)
 
 abbrev pub markWords : List Mark → List ℕ
 markWords [] = []
@@ -72,47 +59,25 @@ pub record Draft : Type 0 where
 abbrev pub fresh : Draft
 fresh = record { states = 0; labels = 0; actions = 0; marks = []; mask = None; cells = []; moves = []; due = 0 }
 
-abbrev pub readHead : ℕ → Step Draft
-readHead w =
-    check (eqb (kind w) 1) WrongKind
-    (check (eqb (field w 22 6) 0) UnusedBit
-    (check (within 1 4096 (field w 0 13) && (leb (field w 13 5) 24 && within 1 8 (field w 18 4))) OutOfRange
-    (more (record { states = field w 0 13; labels = field w 13 5; actions = field w 18 4; marks = []; mask = None; cells = []; moves = []; due = 0 }))))
+-- the place of an entry in the table
+abbrev pub placeOf : Draft → Entry → ℕ
+placeOf d e = e .state * d .actions + e .action
+
+abbrev pub withHead : Head → Draft
+withHead h = record { states = h .states; labels = h .labels; actions = h .actions; marks = []; mask = None; cells = []; moves = []; due = 0 }
 
 abbrev pub withMask : Draft → ℕ → Draft
 withMask d m = record { states = d .states; labels = d .labels; actions = d .actions; marks = d .marks; mask = Some m; cells = d .cells; moves = d .moves; due = d .due }
 
-abbrev pub readMask : Draft → ℕ → Step Draft
-readMask d w =
-    check (eqb (kind w) 2) WrongKind
-    (check (eqb (field w 24 4) 0) UnusedBit
-    (check (ltb (field w 0 24) (2 ^ d .labels)) OutOfRange
-    (more (withMask d (field w 0 24)))))
-
 abbrev pub withMark : Draft → Mark → Draft
 withMark d m = record { states = d .states; labels = d .labels; actions = d .actions; marks = d .marks ++ (m ∷ []); mask = None; cells = d .cells; moves = d .moves; due = d .due }
-
-abbrev pub readReward : Draft → ℕ → ℕ → Step Draft
-readReward d m w =
-    check (eqb (kind w) 3) WrongKind
-    (check (eqb (field w 24 4) 0) UnusedBit
-    (check (leb (field w 0 12) 4000) OutOfRange
-    (more (withMark d (record { mask = m; raised = field w 0 12; origin = field w 12 12 })))))
 
 -- the table filled up to place k with actions that are not offered
 abbrev pub padded : ℕ → List (List Move) → List (List Move)
 padded k cells = cells ++ replicate (k - length cells) []
 
-abbrev pub withEntry : Draft → ℕ → ℕ → Draft
-withEntry d k outcomes = record { states = d .states; labels = d .labels; actions = d .actions; marks = d .marks; mask = d .mask; cells = padded k (d .cells); moves = []; due = outcomes }
-
-abbrev pub readEntry : Draft → ℕ → Step Draft
-readEntry d w =
-    check (eqb (kind w) 4) WrongKind
-    (check (eqb (field w 19 9) 0) UnusedBit
-    (check (ltb (field w 0 12) (d .states) && (ltb (field w 12 3) (d .actions) && within 1 8 (field w 15 4))) OutOfRange
-    (check (leb (length (d .cells)) (field w 0 12 * d .actions + field w 12 3)) NotRising
-    (more (withEntry d (field w 0 12 * d .actions + field w 12 3) (field w 15 4))))))
+abbrev pub withEntry : Draft → Entry → Draft
+withEntry d e = record { states = d .states; labels = d .labels; actions = d .actions; marks = d .marks; mask = d .mask; cells = padded (placeOf d e) (d .cells); moves = []; due = e .outcomes }
 
 abbrev pub withMove : Draft → Move → Draft
 withMove d m = record { states = d .states; labels = d .labels; actions = d .actions; marks = d .marks; mask = d .mask; cells = d .cells; moves = d .moves ++ (m ∷ []); due = d .due - 1 }
@@ -121,28 +86,27 @@ withMove d m = record { states = d .states; labels = d .labels; actions = d .act
 abbrev pub closed : Draft → Draft
 closed d = record { states = d .states; labels = d .labels; actions = d .actions; marks = d .marks; mask = d .mask; cells = d .cells ++ (d .moves ∷ []); moves = []; due = 0 }
 
-abbrev pub readMove : Draft → ℕ → Step Draft
-readMove d w =
-    check (eqb (kind w) 5) WrongKind
-    (check (eqb (field w 16 12) 0) UnusedBit
-    (check (ltb (field w 0 12) (d .states) && within 1 8 (field w 12 4)) OutOfRange
-    (check (not (taken (field w 0 12) (d .moves))) NotRising
+abbrev pub readEntry : Draft → Entry → Step Draft
+readEntry d e = check (leb (length (d .cells)) (placeOf d e)) NotRising (more (withEntry d e))
+
+abbrev pub readMove : Draft → Move → Step Draft
+readMove d m =
+    check (not (taken (m .target) (d .moves))) NotRising
     (cond (ltb 1 (d .due))
-      (more (withMove d (record { target = field w 0 12; weight = field w 12 4 })))
-      (check (eqb (total (d .moves) + field w 12 4) 8) WrongTotal
-      (more (closed (withMove d (record { target = field w 0 12; weight = field w 12 4 })))))))))
+      (more (withMove d m))
+      (check (eqb (total (d .moves) + m .weight) 8) WrongTotal (more (closed (withMove d m)))))
 
 abbrev pub readState : Draft → Option ℕ → ℕ → Step Draft
-readState d None w = readMask d w
-readState d (Some m) w = readReward d m w
+readState d None w = onto (maskOf (d .labels) w) (λ m. more (withMask d m))
+readState d (Some m) w = onto (rewardOf w) (λ r. more (withMark d (record { mask = m; raised = r .raised; origin = r .origin })))
 
 -- what may come next
 unfoldable pub readWord : Draft → ℕ → Step Draft
 readWord d w =
-    cond (eqb (d .states) 0) (readHead w)
+    cond (eqb (d .states) 0) (onto (headOf w) (λ h. more (withHead h)))
     (cond (ltb (length (d .marks)) (d .states)) (readState d (d .mask) w)
-    (cond (ltb 0 (d .due)) (readMove d w)
-    (cond (eqb (kind w) 15) ends (readEntry d w))))
+    (cond (ltb 0 (d .due)) (onto (moveOf (d .states) w) (readMove d))
+    (cond (eqb (kind w) 15) ends (onto (entryOf (d .states) (d .actions) w) (readEntry d)))))
 
 abbrev pub bookOf : Draft → Site
 bookOf d = record { labels = d .labels; actions = d .actions; marks = d .marks; cells = padded (d .states * d .actions) (d .cells) }

@@ -1,3 +1,4 @@
 pub mod Site
+pub mod OneWord
 pub mod Layout
 pub mod Marked

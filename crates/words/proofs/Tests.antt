@@ -8,9 +8,11 @@ use native.Mathlib.Omega.{arith}
 use lib.Dec.{leb}
 use lib.ListN.{length, getD, replicate}
 use Rattle.std.proofs.shelf.Tests.{and-parts, and-from, leb-true, le-leb, cases-bool, cases-eq}
+use Rattle.std.specs.declared.result.Result.{Result}
+use Rattle.std.specs.declared.result.Result.the-variants.{Ok, Err}
 use Rattle.refusal.specs.declared.Refusal.{Refusal}
 use Rattle.words.specs.Tests.{all, allBelow, within, none}
-use Rattle.words.specs.Format.{Step, wrong, more, ends, check}
+use Rattle.words.specs.Format.{Step, wrong, more, ends, check, require, onto}
 
 pub all-push : {X : Type 0} (P : X → Bool) (xs : List X) (y : X) → all P xs ≡ true → P y ≡ true → all P (xs ++ (y ∷ [])) ≡ true
 all-push P [] y a h = and-from (P y) true h refl
@@ -69,3 +71,19 @@ check-ends false r next e = absurd (wrong-is-not-end e)
 pub check-passed : {S : Type 0} (b : Bool) (r : Refusal) (next : Step S) → b ≡ true → check b r next ≡ next
 check-passed true r next e = refl
 check-passed false r next e = let z : _≡_ {A = ℕ} 0 1 = cc in absurd (omega arith)
+
+pub require-ok : {X : Type 0} (b : Bool) (r : Refusal) (next : Result X Refusal) (x : X) → require b r next ≡ Ok x → (b ≡ true) × (next ≡ Ok x)
+require-ok true r next x e = (refl, e)
+require-ok false r next x e = let z : _≡_ {A = ℕ} 0 1 = cc in absurd (omega arith)
+
+pub require-passed : {X : Type 0} (b : Bool) (r : Refusal) (next : Result X Refusal) → b ≡ true → require b r next ≡ next
+require-passed true r next e = refl
+require-passed false r next e = let z : _≡_ {A = ℕ} 0 1 = cc in absurd (omega arith)
+
+pub onto-more : {X S : Type 0} (said : Result X Refusal) (next : X → Step S) (t : S) → onto said next ≡ more t → (x : X) × ((said ≡ Ok x) × (next x ≡ more t))
+onto-more (Ok x) next t e = (x, (refl, e))
+onto-more (Err r) next t e = absurd (wrong-is-not-more e)
+
+pub onto-ends : {X S : Type 0} (said : Result X Refusal) (next : X → Step S) → onto said next ≡ ends → (x : X) × ((said ≡ Ok x) × (next x ≡ ends))
+onto-ends (Ok x) next e = (x, (refl, e))
+onto-ends (Err r) next e = absurd (wrong-is-not-end e)

@@ -22,6 +22,15 @@ pub data Step (S : Type 0) : Type 0 where
 abbrev pub check : {S : Type 0} → Bool → Refusal → Step S → Step S
 check b r next = cond b next (wrong r)
 
+-- the same of what one word alone says
+abbrev pub require : {X : Type 0} → Bool → Refusal → Result X Refusal → Result X Refusal
+require b r next = cond b next (Err r)
+
+-- go on with what the word says, where it is in order
+abbrev pub onto : {X S : Type 0} → Result X Refusal → (X → Step S) → Step S
+onto (Ok x) next = next x
+onto (Err r) next = wrong r
+
 -- the answer to a file: the book, or a refusal and the place of the word that it is about
 pub data Verdict (B : Type 0) : Type 0 where
   got : B → Verdict B

@@ -1,6 +1,7 @@
 // Words of a book: four bytes each, lowest first.
 ghost use mathlib.Core.Path.{_≡_};
 ghost use Prim.Native.Nat.{ℕ, _+_, _*_, _/_, _%_, _^_, _<_, _≤_};
+ghost use lib.Dec.{ltb};
 ghost use lib.ListN.{length, drop};
 ghost use Rattle.std.specs.Options.{Cases};
 ghost use Rattle.words.specs.Words.{firstWord, field as fieldOf};
@@ -25,4 +26,11 @@ pub fn field(word: u32, low: u32, width: u32) -> u32
     }
     let high = word >> low;
     if width >= 32 { high } else { high % (1 << width) }
+}
+
+// Whether a mask has no bit at or above `count`.
+pub fn fits(mask: u32, count: u32) -> bool
+    ensures { λ r. ⌜ r ≡ ltb mask (2 ^ count) ⌝ }
+{
+    count >= 32 || mask >> count == 0
 }
