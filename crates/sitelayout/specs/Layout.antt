@@ -3,7 +3,7 @@
 use mathlib.Core.Bool.{Bool, true, false, cond, not, _&&_}
 use mathlib.Core.List.{List, [], _∷_, _++_}
 use mathlib.Core.Path.{_≡_}
-use Prim.Native.Nat.{ℕ, _+_, _-_, _*_, _/_, _%_, _^_}
+use Prim.Native.Nat.{ℕ, zero, suc, _+_, _-_, _*_, _/_, _%_, _^_}
 use lib.Dec.{eqb, ltb, leb}
 use lib.ListN.{length, replicate}
 use Rattle.std.specs.declared.option.Option.{Option}
@@ -11,7 +11,7 @@ use Rattle.std.specs.declared.option.Option.the-variants.{Some, None}
 use Rattle.std.specs.declared.result.Result.{Result}
 use Rattle.std.specs.declared.result.Result.the-variants.{Ok, Err}
 use Rattle.refusal.specs.declared.Refusal.{Refusal}
-use Rattle.refusal.specs.declared.Refusal.the-variants.{WrongTotal, NotRising, NoWait}
+use Rattle.refusal.specs.declared.Refusal.the-variants.{WrongKind, WrongTotal, NotRising, NoWait}
 use Rattle.words.specs.Words.{kind}
 use Rattle.words.specs.Format.{Step, more, ends, check, onto, Format}
 use Rattle.sitelayout.specs.declared.Entry.{Entry}
@@ -46,74 +46,54 @@ siteWords b = headWord (length (b .marks)) (b .labels) (b .actions) ∷ (markWor
 -- reading
 
 -- what has been read so far
-pub record Draft : Type 0 where
-  pub states : ℕ               -- 0 until the head is read
-  pub labels : ℕ
-  pub actions : ℕ
-  pub marks : List Mark
-  pub mask : Option ℕ          -- a mask whose reward is due
-  pub cells : List (List Move) -- the whole entries, at their places
-  pub moves : List Move        -- the outcomes read of the open entry
-  pub due : ℕ                  -- how many outcomes the open entry still lacks
-
-abbrev pub fresh : Draft
-fresh = record { states = 0; labels = 0; actions = 0; marks = []; mask = None; cells = []; moves = []; due = 0 }
+pub data Draft : Type 0 where
+  fresh : Draft                                                     -- nothing yet
+  marking : Head → List Mark → Option ℕ → Draft                     -- some of the states, and a mask whose reward is due
+  listing : Head → List Mark → List (List Move) → Draft             -- all states, and whole entries at their places
+  moving : Head → List Mark → List (List Move) → List Move → ℕ → Draft  -- an open entry: its outcomes so far, and how many are due after the next
 
 -- the place of an entry in the table
-abbrev pub placeOf : Draft → Entry → ℕ
-placeOf d e = e .state * d .actions + e .action
-
-abbrev pub withHead : Head → Draft
-withHead h = record { states = h .states; labels = h .labels; actions = h .actions; marks = []; mask = None; cells = []; moves = []; due = 0 }
-
-abbrev pub withMask : Draft → ℕ → Draft
-withMask d m = record { states = d .states; labels = d .labels; actions = d .actions; marks = d .marks; mask = Some m; cells = d .cells; moves = d .moves; due = d .due }
-
-abbrev pub withMark : Draft → Mark → Draft
-withMark d m = record { states = d .states; labels = d .labels; actions = d .actions; marks = d .marks ++ (m ∷ []); mask = None; cells = d .cells; moves = d .moves; due = d .due }
+abbrev pub placeOf : Head → Entry → ℕ
+placeOf h e = e .state * h .actions + e .action
 
 -- the table filled up to place k with actions that are not offered
 abbrev pub padded : ℕ → List (List Move) → List (List Move)
 padded k cells = cells ++ replicate (k - length cells) []
 
-abbrev pub withEntry : Draft → Entry → Draft
-withEntry d e = record { states = d .states; labels = d .labels; actions = d .actions; marks = d .marks; mask = d .mask; cells = padded (placeOf d e) (d .cells); moves = []; due = e .outcomes }
+-- one state more: the entries begin after the last
+abbrev pub marked : Head → List Mark → Draft
+marked h ms = cond (ltb (length ms) (h .states)) (marking h ms None) (listing h ms [])
 
-abbrev pub withMove : Draft → Move → Draft
-withMove d m = record { states = d .states; labels = d .labels; actions = d .actions; marks = d .marks; mask = d .mask; cells = d .cells; moves = d .moves ++ (m ∷ []); due = d .due - 1 }
+-- entries rise strictly by state and action
+abbrev pub readEntry : Head → List Mark → List (List Move) → Entry → Step Draft
+readEntry h ms cs e = check (leb (length cs) (placeOf h e)) NotRising (more (moving h ms (padded (placeOf h e) cs) [] (e .outcomes - 1)))
 
--- the open entry is whole: it takes its place in the table
-abbrev pub closed : Draft → Draft
-closed d = record { states = d .states; labels = d .labels; actions = d .actions; marks = d .marks; mask = d .mask; cells = d .cells ++ (d .moves ∷ []); moves = []; due = 0 }
+-- the last outcome closes its entry, whose weights then total 8
+abbrev pub moved : Head → List Mark → List (List Move) → List Move → ℕ → Step Draft
+moved h ms cs mv zero = check (eqb (total mv) 8) WrongTotal (more (listing h ms (cs ++ (mv ∷ []))))
+moved h ms cs mv (suc due) = more (moving h ms cs mv due)
 
-abbrev pub readEntry : Draft → Entry → Step Draft
-readEntry d e = check (leb (length (d .cells)) (placeOf d e)) NotRising (more (withEntry d e))
+-- no target comes twice in an entry
+abbrev pub readMove : Head → List Mark → List (List Move) → List Move → ℕ → Move → Step Draft
+readMove h ms cs mv due m = check (not (taken (m .target) mv)) NotRising (moved h ms cs (mv ++ (m ∷ [])) due)
 
-abbrev pub readMove : Draft → Move → Step Draft
-readMove d m =
-    check (not (taken (m .target) (d .moves))) NotRising
-    (cond (ltb 1 (d .due))
-      (more (withMove d m))
-      (check (eqb (total (d .moves) + m .weight) 8) WrongTotal (more (closed (withMove d m)))))
-
-abbrev pub readState : Draft → Option ℕ → ℕ → Step Draft
-readState d None w = onto (maskOf (d .labels) w) (λ m. more (withMask d m))
-readState d (Some m) w = onto (rewardOf w) (λ r. more (withMark d (record { mask = m; raised = r .raised; origin = r .origin })))
-
--- what may come next
+-- what may come next, and what it adds
 unfoldable pub readWord : Draft → ℕ → Step Draft
-readWord d w =
-    cond (eqb (d .states) 0) (onto (headOf w) (λ h. more (withHead h)))
-    (cond (ltb (length (d .marks)) (d .states)) (readState d (d .mask) w)
-    (cond (ltb 0 (d .due)) (onto (moveOf (d .states) w) (readMove d))
-    (cond (eqb (kind w) 15) ends (onto (entryOf (d .states) (d .actions) w) (readEntry d)))))
+readWord fresh w = onto (headOf w) (λ h. more (marking h [] None))
+readWord (marking h ms None) w = onto (maskOf (h .labels) w) (λ m. more (marking h ms (Some m)))
+readWord (marking h ms (Some m)) w = onto (rewardOf w) (λ r. more (marked h (ms ++ (record { mask = m; raised = r .raised; origin = r .origin } ∷ []))))
+readWord (listing h ms cs) w = cond (eqb (kind w) 15) ends (onto (entryOf (h .states) (h .actions) w) (readEntry h ms cs))
+readWord (moving h ms cs mv due) w = onto (moveOf (h .states) w) (readMove h ms cs mv due)
 
-abbrev pub bookOf : Draft → Site
-bookOf d = record { labels = d .labels; actions = d .actions; marks = d .marks; cells = padded (d .states * d .actions) (d .cells) }
+abbrev pub bookOf : Head → List Mark → List (List Move) → Site
+bookOf h ms cs = record { labels = h .labels; actions = h .actions; marks = ms; cells = padded (h .states * h .actions) cs }
 
--- at the end: action 0 is offered in every state
+-- at the end action 0 is offered in every state; an end word comes nowhere else than after whole entries
 unfoldable pub wholeBook : Draft → Result Site Refusal
-wholeBook d = cond (waits (d .actions) (d .states) (bookOf d .cells)) (Ok (bookOf d)) (Err NoWait)
+wholeBook fresh = Err WrongKind
+wholeBook (marking h ms o) = Err WrongKind
+wholeBook (listing h ms cs) = cond (waits (h .actions) (h .states) (padded (h .states * h .actions) cs)) (Ok (bookOf h ms cs)) (Err NoWait)
+wholeBook (moving h ms cs mv due) = Err WrongKind
 
 abbrev pub siteFormat : Format Draft Site
 siteFormat = record { start = fresh; step = readWord; finish = wholeBook }
