@@ -1,1 +1,4 @@
+pub mod OneWords
+pub mod Account
+pub mod Way
 mod Try
