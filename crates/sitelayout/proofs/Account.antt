@@ -139,20 +139,20 @@ mark-next h ms m w r g said =
     let told = reward-reads w r said in
     let mark : Mark = record { mask = m; raised = r .raised; origin = r .origin } in
     let one : goodMark (h .labels) (record { mask = m; raised = r .raised; origin = r .origin }) ≡ true =
-      and-from (ltb m (2 ^ h .labels)) (leb (r .raised) 4000 && ltb (r .origin) 4096) (lt-ltb m (2 ^ h .labels) (g .1 .1)) (and-from (leb (r .raised) 4000) (ltb (r .origin) 4096) (le-leb (r .raised) 4000 (told .1 .0)) (lt-ltb (r .origin) 4096 (told .1 .1))) in
+    and-from (ltb m (2 ^ h .labels)) (leb (r .raised) 4000 && ltb (r .origin) 4096) (lt-ltb m (2 ^ h .labels) (g .1 .1)) (and-from (leb (r .raised) 4000) (ltb (r .origin) 4096) (le-leb (r .raised) 4000 (told .1 .0)) (lt-ltb (r .origin) 4096 (told .1 .1))) in
     let each = all-push (goodMark (h .labels)) ms (record { mask = m; raised = r .raised; origin = r .origin }) (g .0 .1) one in
     let long = length-push ms (record { mask = m; raised = r .raised; origin = r .origin }) in
     let line : headWords h ∷ markWords (ms ++ (record { mask = m; raised = r .raised; origin = r .origin } ∷ [])) ≡ headWords h ∷ ((markWords ms ++ (maskWord m ∷ [])) ++ (w ∷ [])) =
-      ap (λ l. headWords h ∷ l) (mark-words-push ms (record { mask = m; raised = r .raised; origin = r .origin }) ∙ ap (λ v. (markWords ms ++ (maskWord m ∷ [])) ++ (v ∷ [])) (sym (told .0))) in
+    ap (λ l. headWords h ∷ l) (mark-words-push ms (record { mask = m; raised = r .raised; origin = r .origin }) ∙ ap (λ v. (markWords ms ++ (maskWord m ∷ [])) ++ (v ∷ [])) (sym (told .0))) in
     elim (cases-bool (ltb (length (ms ++ (record { mask = m; raised = r .raised; origin = r .origin } ∷ []))) (h .states))) [
-      inl t ↦ subst (λ b. Next (marking h ms (Some m)) w (cond b (marking h (ms ++ (record { mask = m; raised = r .raised; origin = r .origin } ∷ [])) None) (listing h (ms ++ (record { mask = m; raised = r .raised; origin = r .origin } ∷ [])) []))) (sym t)
-        (((g .0 .0, each), (ltb-true _ _ t, tt)), line)
-    | inr t ↦ subst (λ b. Next (marking h ms (Some m)) w (cond b (marking h (ms ++ (record { mask = m; raised = r .raised; origin = r .origin } ∷ [])) None) (listing h (ms ++ (record { mask = m; raised = r .raised; origin = r .origin } ∷ [])) []))) (sym t)
-        (((g .0 .0, each), (omega (arith, ltb-false _ _ t, g .1 .0), (refl, omega arith))), ap (λ l. headWords h ∷ l) (append-nil (markWords (ms ++ (record { mask = m; raised = r .raised; origin = r .origin } ∷ [])))) ∙ line)
+      | inl t ↦ subst (λ b. Next (marking h ms (Some m)) w (cond b (marking h (ms ++ (record { mask = m; raised = r .raised; origin = r .origin } ∷ [])) None) (listing h (ms ++ (record { mask = m; raised = r .raised; origin = r .origin } ∷ [])) []))) (sym t)
+          (((g .0 .0, each), (ltb-true _ _ t, tt)), line)
+      | inr t ↦ subst (λ b. Next (marking h ms (Some m)) w (cond b (marking h (ms ++ (record { mask = m; raised = r .raised; origin = r .origin } ∷ [])) None) (listing h (ms ++ (record { mask = m; raised = r .raised; origin = r .origin } ∷ [])) []))) (sym t)
+          (((g .0 .0, each), (omega (arith, ltb-false _ _ t, g .1 .0), (refl, omega arith))), ap (λ l. headWords h ∷ l) (append-nil (markWords (ms ++ (record { mask = m; raised = r .raised; origin = r .origin } ∷ [])))) ∙ line)
     ]
 
 entry-next : (h : Head) (ms : List Mark) (cs : List (List Move)) (w : ℕ) (e : Entry) → Good (listing h ms cs) → entryOf (h .states) (h .actions) w ≡ Ok e → length cs ≤ placeOf h e
-  → Next (listing h ms cs) w (moving h ms (padded (placeOf h e) cs) [] (e .outcomes - 1))
+    → Next (listing h ms cs) w (moving h ms (padded (placeOf h e) cs) [] (e .outcomes - 1))
 entry-next h ms cs w e g said rising =
     let told = entry-reads (h .states) (h .actions) w e said in
     let here = padded-length (placeOf h e) cs rising in
@@ -160,11 +160,20 @@ entry-next h ms cs w e g said rising =
     let inside = mul-add-lt (e .state) (h .actions) (e .action) (h .states) (told .1 .0) (told .1 .1) in
     let quotient : length (padded (placeOf h e) cs) / h .actions ≡ e .state = ap (λ k. k / h .actions) here ∙ div-mul-add (e .state) (h .actions) (e .action) (told .1 .1) in
     let remainder : length (padded (placeOf h e) cs) % h .actions ≡ e .action = ap (λ k. k % h .actions) here ∙ mod-mul-add (e .state) (h .actions) (e .action) (told .1 .1) in
-    let word : openWord h (length (padded (placeOf h e) cs)) (0 + suc (e .outcomes - 1)) ≡ w = (λ i. entryWord (quotient i) (remainder i) (count i)) ∙ sym (told .0) in
-    ((g .0, (g .1 .0, (all-append (goodCell (h .states)) cs (replicate (placeOf h e - length cs) []) (g .1 .1 .0) (all-replicate (goodCell (h .states)) (placeOf h e - length cs) [] refl),
-      (omega (arith, inside, here), (refl, (refl, omega (arith, told .1 .2, told .1 .3))))))),
-     ap (λ l. headWords h ∷ (markWords ms ++ l)) ((λ i. cell-words-padded (h .actions) (placeOf h e) cs i ++ (word i ∷ [])))
-     ∙ ap (λ l. headWords h ∷ l) (sym (append-assoc (markWords ms) (cellWords (h .actions) 0 cs) (w ∷ []))))
+    let word : openWord h (length (padded (placeOf h e) cs)) (0 + suc (e .outcomes - 1)) ≡ w = (λ i. entryWord (quotient i) (remainder i) (count i)) ∙ sym (told .0) in (
+      (
+        g .0,
+        (
+          g .1 .0,
+          (
+            all-append (goodCell (h .states)) cs (replicate (placeOf h e - length cs) []) (g .1 .1 .0) (all-replicate (goodCell (h .states)) (placeOf h e - length cs) [] refl),
+            (omega (arith, inside, here), (refl, (refl, omega (arith, told .1 .2, told .1 .3)))),
+          ),
+        ),
+      ),
+      ap (λ l. headWords h ∷ (markWords ms ++ l)) ((λ i. cell-words-padded (h .actions) (placeOf h e) cs i ++ (word i ∷ [])))
+          ∙ ap (λ l. headWords h ∷ l) (sym (append-assoc (markWords ms) (cellWords (h .actions) 0 cs) (w ∷ []))),
+    )
 
 cell-word-push : (a k : ℕ) (mv : List Move) (m : Move) → cellWord a k (mv ++ (m ∷ [])) ≡ entryWord (k / a) (k % a) (length mv + 1) ∷ (moveWords mv ++ (moveWord m ∷ []))
 cell-word-push a k mv m =
@@ -182,7 +191,7 @@ open-push h ms cs mv due v =
     ∙ ap (λ l. markWords ms ++ l) (append-assoc (cellWords (h .actions) 0 cs) (openWord h (length cs) (length mv + suc due) ∷ moveWords mv) (v ∷ [])))
 
 move-next : (h : Head) (ms : List Mark) (cs : List (List Move)) (mv : List Move) (due w : ℕ) (m : Move) (t : Draft) → Good (moving h ms cs mv due) → moveOf (h .states) w ≡ Ok m → taken (m .target) mv ≡ false
-  → moved h ms cs (mv ++ (m ∷ [])) due ≡ more t → Next (moving h ms cs mv due) w t
+    → moved h ms cs (mv ++ (m ∷ [])) due ≡ more t → Next (moving h ms cs mv due) w t
 move-next h ms cs mv zero w m t g said free e =
     let told = move-reads (h .states) w m said in
     let eight = check-more (eqb (total (mv ++ (m ∷ []))) 8) WrongTotal (more (listing h ms (cs ++ ((mv ++ (m ∷ [])) ∷ [])))) t e in
@@ -191,14 +200,14 @@ move-next h ms cs mv zero w m t g said free e =
     let long = length-push mv m in
     let few : leb (length (mv ++ (m ∷ []))) 8 ≡ true = le-leb (length (mv ++ (m ∷ []))) 8 (omega (arith, long, g .1 .1 .1 .1 .1 .1)) in
     let cell : goodCell (h .states) (mv ++ (m ∷ [])) ≡ true =
-      or-right (none (mv ++ (m ∷ []))) (leb (length (mv ++ (m ∷ []))) 8 && (all (goodMove (h .states)) (mv ++ (m ∷ [])) && (apart (mv ++ (m ∷ [])) && eqb (total (mv ++ (m ∷ []))) 8)))
-      (and-from (leb (length (mv ++ (m ∷ []))) 8) (all (goodMove (h .states)) (mv ++ (m ∷ [])) && (apart (mv ++ (m ∷ [])) && eqb (total (mv ++ (m ∷ []))) 8)) few
-      (and-from (all (goodMove (h .states)) (mv ++ (m ∷ []))) (apart (mv ++ (m ∷ [])) && eqb (total (mv ++ (m ∷ []))) 8) each
-      (and-from (apart (mv ++ (m ∷ []))) (eqb (total (mv ++ (m ∷ []))) 8) (apart-push mv m (g .1 .1 .1 .1 .1 .0) free) (eight .0)))) in
+    or-right (none (mv ++ (m ∷ []))) (leb (length (mv ++ (m ∷ []))) 8 && (all (goodMove (h .states)) (mv ++ (m ∷ [])) && (apart (mv ++ (m ∷ [])) && eqb (total (mv ++ (m ∷ []))) 8)))
+    (and-from (leb (length (mv ++ (m ∷ []))) 8) (all (goodMove (h .states)) (mv ++ (m ∷ [])) && (apart (mv ++ (m ∷ [])) && eqb (total (mv ++ (m ∷ []))) 8)) few
+    (and-from (all (goodMove (h .states)) (mv ++ (m ∷ []))) (apart (mv ++ (m ∷ [])) && eqb (total (mv ++ (m ∷ []))) 8) each
+    (and-from (apart (mv ++ (m ∷ []))) (eqb (total (mv ++ (m ∷ []))) 8) (apart-push mv m (g .1 .1 .1 .1 .1 .0) free) (eight .0)))) in
     let line : written (listing h ms (cs ++ ((mv ++ (m ∷ [])) ∷ []))) ≡ written (moving h ms cs mv zero) ++ (w ∷ []) =
-      ap (λ l. headWords h ∷ (markWords ms ++ l)) (cell-words-push (h .actions) 0 cs (mv ++ (m ∷ []))
-      ∙ ap (λ l. cellWords (h .actions) 0 cs ++ l) (ap (λ k. cellWord (h .actions) k (mv ++ (m ∷ []))) (zero-add (length cs)) ∙ cell-word-push (h .actions) (length cs) mv m ∙ ap (λ v. openWord h (length cs) (length mv + 1) ∷ (moveWords mv ++ (v ∷ []))) (sym (told .0))))
-      ∙ sym (open-push h ms cs mv zero w) in
+    ap (λ l. headWords h ∷ (markWords ms ++ l)) (cell-words-push (h .actions) 0 cs (mv ++ (m ∷ []))
+    ∙ ap (λ l. cellWords (h .actions) 0 cs ++ l) (ap (λ k. cellWord (h .actions) k (mv ++ (m ∷ []))) (zero-add (length cs)) ∙ cell-word-push (h .actions) (length cs) mv m ∙ ap (λ v. openWord h (length cs) (length mv + 1) ∷ (moveWords mv ++ (v ∷ []))) (sym (told .0))))
+    ∙ sym (open-push h ms cs mv zero w) in
     subst (Next (moving h ms cs mv zero) w) (same-more (eight .1))
     ((g .0, (g .1 .0, (all-push (goodCell (h .states)) cs (mv ++ (m ∷ [])) (g .1 .1 .0) cell, omega (arith, length-push cs (mv ++ (m ∷ [])), g .1 .1 .1 .0)))), line)
 move-next h ms cs mv (suc due) w m t g said free e =
@@ -207,8 +216,8 @@ move-next h ms cs mv (suc due) w m t g said free e =
     let long = length-push mv m in
     let count : length (mv ++ (m ∷ [])) + suc due ≡ length mv + suc (suc due) = omega (arith, long) in
     let line : written (moving h ms cs (mv ++ (m ∷ [])) due) ≡ written (moving h ms cs mv (suc due)) ++ (w ∷ []) =
-      (λ i. headWords h ∷ (markWords ms ++ (cellWords (h .actions) 0 cs ++ (openWord h (length cs) (count i) ∷ (move-words-push mv m ∙ ap (λ v. moveWords mv ++ (v ∷ [])) (sym (told .0))) i))))
-      ∙ sym (open-push h ms cs mv (suc due) w) in
+    (λ i. headWords h ∷ (markWords ms ++ (cellWords (h .actions) 0 cs ++ (openWord h (length cs) (count i) ∷ (move-words-push mv m ∙ ap (λ v. moveWords mv ++ (v ∷ [])) (sym (told .0))) i))))
+    ∙ sym (open-push h ms cs mv (suc due) w) in
     subst (Next (moving h ms cs mv (suc due)) w) (same-more e)
     ((g .0, (g .1 .0, (g .1 .1 .0, (g .1 .1 .1 .0, (all-push (goodMove (h .states)) mv m (g .1 .1 .1 .1 .0) one, (apart-push mv m (g .1 .1 .1 .1 .1 .0) free, omega (arith, long, g .1 .1 .1 .1 .1 .1))))))), line)
 
@@ -228,11 +237,11 @@ word-kept (marking h ms (Some m)) t w low g e =
     subst (Next (marking h ms (Some m)) w) (same-more (got .1 .1)) (mark-next h ms m w (got .0) g (got .1 .0))
 word-kept (listing h ms cs) t w low g e =
     elim (cases-bool (eqb (kind w) 15)) [
-      inl is ↦ let z : _≡_ {A = ℕ} 0 1 = cc (ap (λ b. cond b ends (onto (entryOf (h .states) (h .actions) w) (readEntry h ms cs))) is, e) in absurd (omega arith)
-    | inr no15 ↦
-        let got = onto-more (entryOf (h .states) (h .actions) w) (readEntry h ms cs) t (sym (ap (λ b. cond b ends (onto (entryOf (h .states) (h .actions) w) (readEntry h ms cs))) no15) ∙ e) in
-        let rising = check-more (leb (length cs) (placeOf h (got .0))) NotRising (more (moving h ms (padded (placeOf h (got .0)) cs) [] (got .0 .outcomes - 1))) t (got .1 .1) in
-        subst (Next (listing h ms cs) w) (same-more (rising .1)) (entry-next h ms cs w (got .0) g (got .1 .0) (leb-true (length cs) (placeOf h (got .0)) (rising .0)))
+      | inl is ↦ let z : _≡_ {A = ℕ} 0 1 = cc (ap (λ b. cond b ends (onto (entryOf (h .states) (h .actions) w) (readEntry h ms cs))) is, e) in absurd (omega arith)
+      | inr no15 ↦
+          let got = onto-more (entryOf (h .states) (h .actions) w) (readEntry h ms cs) t (sym (ap (λ b. cond b ends (onto (entryOf (h .states) (h .actions) w) (readEntry h ms cs))) no15) ∙ e) in
+          let rising = check-more (leb (length cs) (placeOf h (got .0))) NotRising (more (moving h ms (padded (placeOf h (got .0)) cs) [] (got .0 .outcomes - 1))) t (got .1 .1) in
+          subst (Next (listing h ms cs) w) (same-more (rising .1)) (entry-next h ms cs w (got .0) g (got .1 .0) (leb-true (length cs) (placeOf h (got .0)) (rising .0)))
     ]
 word-kept (moving h ms cs mv due) t w low g e =
     let got = onto-more (moveOf (h .states) w) (readMove h ms cs mv due) t e in
@@ -254,10 +263,10 @@ end-word (marking h ms None) w low g e = absurd (more-is-no-end (onto-ends (mask
 end-word (marking h ms (Some m)) w low g e = absurd (more-is-no-end (onto-ends (rewardOf w) (λ r. more (marked h (ms ++ (record { mask = m; raised = r .raised; origin = r .origin } ∷ [])))) e .1 .1))
 end-word (listing h ms cs) w low g e =
     elim (cases-bool (eqb (kind w) 15)) [
-      inl is ↦ eqb-true (kind w) 15 is
-    | inr no15 ↦
-        let got = onto-ends (entryOf (h .states) (h .actions) w) (readEntry h ms cs) (sym (ap (λ b. cond b ends (onto (entryOf (h .states) (h .actions) w) (readEntry h ms cs))) no15) ∙ e) in
-        absurd (more-is-no-end (check-ends (leb (length cs) (placeOf h (got .0))) NotRising (more (moving h ms (padded (placeOf h (got .0)) cs) [] (got .0 .outcomes - 1))) (got .1 .1) .1))
+      | inl is ↦ eqb-true (kind w) 15 is
+      | inr no15 ↦
+          let got = onto-ends (entryOf (h .states) (h .actions) w) (readEntry h ms cs) (sym (ap (λ b. cond b ends (onto (entryOf (h .states) (h .actions) w) (readEntry h ms cs))) no15) ∙ e) in
+          absurd (more-is-no-end (check-ends (leb (length cs) (placeOf h (got .0))) NotRising (more (moving h ms (padded (placeOf h (got .0)) cs) [] (got .0 .outcomes - 1))) (got .1 .1) .1))
     ]
 end-word (moving h ms cs mv due) w low g e =
     let got = onto-ends (moveOf (h .states) w) (readMove h ms cs mv due) e in
@@ -267,21 +276,21 @@ same-book : {x y : Site} → _≡_ {A = Result Site Refusal} (Ok x) (Ok y) → x
 same-book e = cc
 
 valid-from : (h : Head) (ms : List Mark) (cs : List (List Move)) → GoodHead h → length ms ≡ h .states → all (goodMark (h .labels)) ms ≡ true → all (goodCell (h .states)) cs ≡ true → length cs ≤ h .states * h .actions
-  → waits (h .actions) (h .states) (padded (h .states * h .actions) cs) ≡ true → valid (bookOf h ms cs) ≡ true
+    → waits (h .actions) (h .states) (padded (h .states * h .actions) cs) ≡ true → valid (bookOf h ms cs) ≡ true
 valid-from h ms cs g long marks cells few w =
     let k = padded (h .states * h .actions) cs in
     let same : (n : ℕ) → n ≡ h .states → (within 1 4096 n && (leb (h .labels) 24 && (within 1 8 (h .actions) && (all (goodMark (h .labels)) ms && (eqb (length (padded (h .states * h .actions) cs)) (n * h .actions) && (all (goodCell n) (padded (h .states * h .actions) cs) && waits (h .actions) n (padded (h .states * h .actions) cs))))))) ≡ true =
-      λ n e. subst (λ n. (within 1 4096 n && (leb (h .labels) 24 && (within 1 8 (h .actions) && (all (goodMark (h .labels)) ms && (eqb (length (padded (h .states * h .actions) cs)) (n * h .actions) && (all (goodCell n) (padded (h .states * h .actions) cs) && waits (h .actions) n (padded (h .states * h .actions) cs))))))) ≡ true) (sym e)
-      (and-from _ _ (within-from 1 4096 (h .states) (g .0) (g .1))
-      (and-from _ _ (le-leb (h .labels) 24 (g .2))
-      (and-from _ _ (within-from 1 8 (h .actions) (g .3) (g .4))
-      (and-from _ _ marks
-      (and-from _ _ (eq-eqb _ _ (padded-length (h .states * h .actions) cs few))
-      (and-from _ _ (all-append (goodCell (h .states)) cs (replicate (h .states * h .actions - length cs) []) cells (all-replicate (goodCell (h .states)) (h .states * h .actions - length cs) [] refl))
-      w)))))) in
+    λ n e. subst (λ n. (within 1 4096 n && (leb (h .labels) 24 && (within 1 8 (h .actions) && (all (goodMark (h .labels)) ms && (eqb (length (padded (h .states * h .actions) cs)) (n * h .actions) && (all (goodCell n) (padded (h .states * h .actions) cs) && waits (h .actions) n (padded (h .states * h .actions) cs))))))) ≡ true) (sym e)
+    (and-from _ _ (within-from 1 4096 (h .states) (g .0) (g .1))
+    (and-from _ _ (le-leb (h .labels) 24 (g .2))
+    (and-from _ _ (within-from 1 8 (h .actions) (g .3) (g .4))
+    (and-from _ _ marks
+    (and-from _ _ (eq-eqb _ _ (padded-length (h .states * h .actions) cs few))
+    (and-from _ _ (all-append (goodCell (h .states)) cs (replicate (h .states * h .actions - length cs) []) cells (all-replicate (goodCell (h .states)) (h .states * h .actions - length cs) [] refl))
+    w)))))) in
     same (length ms) long
 
-abbrev choice : Bool → Site → Result Site Refusal
+abbrev pub choice : Bool → Site → Result Site Refusal
 choice t b = cond t (Ok b) (Err NoWait)
 
 -- a whole book is valid, and its words are those that were read
@@ -293,10 +302,11 @@ book-kept (moving h ms cs mv due) b g e = let z : _≡_ {A = ℕ} 0 1 = cc in ab
 book-kept (listing h ms cs) b g e =
     let n = h .states * h .actions in
     elim (cases-bool (waits (h .actions) (h .states) (padded (h .states * h .actions) cs))) [
-      inr never ↦ let z : _≡_ {A = ℕ} 0 1 = cc (ap (λ t. choice t (bookOf h ms cs)) never, e) in absurd (omega arith)
-    | inl w ↦
-        let same : bookOf h ms cs ≡ b = same-book (sym (ap (λ t. choice t (bookOf h ms cs)) w) ∙ e) in
-        subst (λ b. (valid b ≡ true) × (written (listing h ms cs) ≡ siteWords b)) same
-        (valid-from h ms cs (g .0 .0) (g .1 .0) (g .0 .1) (g .1 .1 .0) (g .1 .1 .1) w,
-         sym (λ i. headWord (g .1 .0 i) (h .labels) (h .actions) ∷ (markWords ms ++ cell-words-padded (h .actions) (h .states * h .actions) cs i)))
+      | inr never ↦ let z : _≡_ {A = ℕ} 0 1 = cc (ap (λ t. choice t (bookOf h ms cs)) never, e) in absurd (omega arith)
+      | inl w ↦
+          let same : bookOf h ms cs ≡ b = same-book (sym (ap (λ t. choice t (bookOf h ms cs)) w) ∙ e) in
+          subst (λ b. (valid b ≡ true) × (written (listing h ms cs) ≡ siteWords b)) same (
+            valid-from h ms cs (g .0 .0) (g .1 .0) (g .0 .1) (g .1 .1 .0) (g .1 .1 .1) w,
+            sym (λ i. headWord (g .1 .0 i) (h .labels) (h .actions) ∷ (markWords ms ++ cell-words-padded (h .actions) (h .states * h .actions) cs i)),
+          )
     ]

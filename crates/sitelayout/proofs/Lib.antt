@@ -1,4 +1,3 @@
 pub mod OneWords
 pub mod Account
 pub mod Way
-mod Try

@@ -56,7 +56,7 @@ head-reads w h e =
     let l = leb-true (field w 13 5) 24 (u .0) in
     let k = within-parts 1 8 (field w 18 4) (u .1) in
     let is : w ≡ headWord (field w 0 13) (field w 13 5) (field w 18 4) =
-      omega (arith, eqb-true (kind w) 1 (p .0), eqb-true (field w 22 6) 0 (p .1), field-and-above w 0 13, field-and-above w 13 5, field-and-above w 18 4, field-and-above w 22 6) in
+    omega (arith, eqb-true (kind w) 1 (p .0), eqb-true (field w 22 6) 0 (p .1), field-and-above w 0 13, field-and-above w 13 5, field-and-above w 18 4, field-and-above w 22 6) in
     subst (λ h. (w ≡ headWord (h .states) (h .labels) (h .actions)) × GoodHead h) (p .3) (is, (n .0, n .1, l, k .0, k .1))
 
 pub mask-reads : (labels w m : ℕ) → maskOf labels w ≡ Ok m → (w ≡ maskWord m) × (m < 2 ^ labels)
@@ -78,7 +78,7 @@ entry-reads states actions w x e =
     let u = and-parts (ltb (field w 12 3) actions) (within 1 8 (field w 15 4)) (t .1) in
     let n = within-parts 1 8 (field w 15 4) (u .1) in
     let is : w ≡ entryWord (field w 0 12) (field w 12 3) (field w 15 4) =
-      omega (arith, eqb-true (kind w) 4 (p .0), eqb-true (field w 19 9) 0 (p .1), field-and-above w 0 12, field-and-above w 12 3, field-and-above w 15 4, field-and-above w 19 9) in
+    omega (arith, eqb-true (kind w) 4 (p .0), eqb-true (field w 19 9) 0 (p .1), field-and-above w 0 12, field-and-above w 12 3, field-and-above w 15 4, field-and-above w 19 9) in
     subst (λ x. (w ≡ entryWord (x .state) (x .action) (x .outcomes)) × GoodEntry states actions x) (p .3)
     (is, (ltb-true (field w 0 12) states (t .0), ltb-true (field w 12 3) actions (u .0), n .0, n .1))
 
@@ -88,7 +88,7 @@ move-reads states w m e =
     let t = and-parts (ltb (field w 0 12) states) (within 1 8 (field w 12 4)) (p .2) in
     let n = within-parts 1 8 (field w 12 4) (t .1) in
     let is : w ≡ moveWord (record { target = field w 0 12; weight = field w 12 4 }) =
-      omega (arith, eqb-true (kind w) 5 (p .0), eqb-true (field w 16 12) 0 (p .1), field-and-above w 0 12, field-and-above w 12 4, field-and-above w 16 12) in
+    omega (arith, eqb-true (kind w) 5 (p .0), eqb-true (field w 16 12) 0 (p .1), field-and-above w 0 12, field-and-above w 12 4, field-and-above w 16 12) in
     subst (λ m. (w ≡ moveWord m) × GoodOutcome states m) (p .3) (is, (ltb-true (field w 0 12) states (t .0), n .0, n .1))
 
 pub head-written : (n l k : ℕ) → GoodHead (record { states = n; labels = l; actions = k }) → headOf (headWord n l k) ≡ Ok (record { states = n; labels = l; actions = k })
@@ -102,10 +102,10 @@ head-written n l k g =
     (record { states = field (headWord n l k) 0 13; labels = field (headWord n l k) 13 5; actions = field (headWord n l k) 18 4 }) (record { states = n; labels = l; actions = k })
     (eq-eqb (kind (headWord n l k)) 1 kd) (eq-eqb (field (headWord n l k) 22 6) 0 f3)
     (and-from (within 1 4096 (field (headWord n l k) 0 13)) (leb (field (headWord n l k) 13 5) 24 && within 1 8 (field (headWord n l k) 18 4))
-      (ap (within 1 4096) f0 ∙ within-from 1 4096 n (g .0) (g .1))
-      (and-from (leb (field (headWord n l k) 13 5) 24) (within 1 8 (field (headWord n l k) 18 4))
-        (ap (λ x. leb x 24) f1 ∙ le-leb l 24 (g .2))
-        (ap (within 1 8) f2 ∙ within-from 1 8 k (g .3) (g .4))))
+    (ap (within 1 4096) f0 ∙ within-from 1 4096 n (g .0) (g .1))
+    (and-from (leb (field (headWord n l k) 13 5) 24) (within 1 8 (field (headWord n l k) 18 4))
+    (ap (λ x. leb x 24) f1 ∙ le-leb l 24 (g .2))
+    (ap (within 1 8) f2 ∙ within-from 1 8 k (g .3) (g .4))))
     (cc (f0, f1, f2))
 
 pub mask-written : (labels m : ℕ) → m < 2 ^ labels → labels ≤ 24 → maskOf labels (maskWord m) ≡ Ok m
@@ -143,10 +143,10 @@ entry-written states actions s a n hs ha g =
     (record { state = field (entryWord s a n) 0 12; action = field (entryWord s a n) 12 3; outcomes = field (entryWord s a n) 15 4 }) (record { state = s; action = a; outcomes = n })
     (eq-eqb (kind (entryWord s a n)) 4 kd) (eq-eqb (field (entryWord s a n) 19 9) 0 f3)
     (and-from (ltb (field (entryWord s a n) 0 12) states) (ltb (field (entryWord s a n) 12 3) actions && within 1 8 (field (entryWord s a n) 15 4))
-      (ap (λ x. ltb x states) f0 ∙ lt-ltb s states (g .0))
-      (and-from (ltb (field (entryWord s a n) 12 3) actions) (within 1 8 (field (entryWord s a n) 15 4))
-        (ap (λ x. ltb x actions) f1 ∙ lt-ltb a actions (g .1))
-        (ap (within 1 8) f2 ∙ within-from 1 8 n (g .2) (g .3))))
+    (ap (λ x. ltb x states) f0 ∙ lt-ltb s states (g .0))
+    (and-from (ltb (field (entryWord s a n) 12 3) actions) (within 1 8 (field (entryWord s a n) 15 4))
+    (ap (λ x. ltb x actions) f1 ∙ lt-ltb a actions (g .1))
+    (ap (within 1 8) f2 ∙ within-from 1 8 n (g .2) (g .3))))
     (cc (f0, f1, f2))
 
 pub move-written : (states : ℕ) (m : Move) → states ≤ 4096 → GoodOutcome states m → moveOf states (moveWord m) ≡ Ok m
@@ -159,6 +159,6 @@ move-written states m hs g =
     (record { target = field (moveWord m) 0 12; weight = field (moveWord m) 12 4 }) m
     (eq-eqb (kind (moveWord m)) 5 kd) (eq-eqb (field (moveWord m) 16 12) 0 f2)
     (and-from (ltb (field (moveWord m) 0 12) states) (within 1 8 (field (moveWord m) 12 4))
-      (ap (λ x. ltb x states) f0 ∙ lt-ltb (m .target) states (g .0))
-      (ap (within 1 8) f1 ∙ within-from 1 8 (m .weight) (g .1) (g .2)))
+    (ap (λ x. ltb x states) f0 ∙ lt-ltb (m .target) states (g .0))
+    (ap (within 1 8) f1 ∙ within-from 1 8 (m .weight) (g .1) (g .2)))
     (λ i. record { target = f0 i; weight = f1 i })

@@ -47,9 +47,9 @@ siteWords b = headWord (length (b .marks)) (b .labels) (b .actions) ∷ (markWor
 
 -- what has been read so far
 pub data Draft : Type 0 where
-  fresh : Draft                                                     -- nothing yet
-  marking : Head → List Mark → Option ℕ → Draft                     -- some of the states, and a mask whose reward is due
-  listing : Head → List Mark → List (List Move) → Draft             -- all states, and whole entries at their places
+  fresh : Draft  -- nothing yet
+  marking : Head → List Mark → Option ℕ → Draft  -- some of the states, and a mask whose reward is due
+  listing : Head → List Mark → List (List Move) → Draft  -- all states, and whole entries at their places
   moving : Head → List Mark → List (List Move) → List Move → ℕ → Draft  -- an open entry: its outcomes so far, and how many are due after the next
 
 -- the place of an entry in the table

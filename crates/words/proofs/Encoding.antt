@@ -64,57 +64,58 @@ closes (Err r) p b e = absurd (stop-is-no-book e)
 whole-of : {B : Type 0} (whole : Result B Refusal) (p w : ℕ) (rest : List ℕ) (b : B) → ending whole p w (isNil rest) ≡ got b → (w % 2 ^ 28 ≡ p) × (rest ≡ []) × (whole ≡ Ok b)
 whole-of {B} whole p w rest b e =
     elim (cases-bool (eqb (w % 2 ^ 28) p && isNil rest)) [
-      inl t ↦
-        let parts = and-parts _ _ t in
-        (eqb-true _ _ (parts .0), nil-from rest (parts .1), closes whole p b (sym (ap (λ t. cond t (closing whole p) (stop WrongEnd p)) t) ∙ e))
-    | inr t ↦ absurd (stop-is-no-book {B = B} (sym (ap (λ t. cond t (closing whole p) (stop WrongEnd p)) t) ∙ e))
+      | inl t ↦
+          let parts = and-parts _ _ t in
+          (eqb-true _ _ (parts .0), nil-from rest (parts .1), closes whole p b (sym (ap (λ t. cond t (closing whole p) (stop WrongEnd p)) t) ∙ e))
+      | inr t ↦ absurd (stop-is-no-book {B = B} (sym (ap (λ t. cond t (closing whole p) (stop WrongEnd p)) t) ∙ e))
     ]
 
 module _ {S B : Type 0} (f : Format S B) (Valid : B → Type 0) (words : B → List ℕ) (Good : S → Type 0) (written : S → List ℕ)
-  (steps : (s t : S) (w : ℕ) → w < 2 ^ 32 → Good s → f .step s w ≡ more t → Good t × (written t ≡ written s ++ (w ∷ [])))
-  (ends-well : (s : S) (w : ℕ) → w < 2 ^ 32 → Good s → f .step s w ≡ ends → kind w ≡ 15)
-  (finishes : (s : S) (b : B) → Good s → f .finish s ≡ Ok b → Valid b × (written s ≡ words b))
+    (steps : (s t : S) (w : ℕ) → w < 2 ^ 32 → Good s → f .step s w ≡ more t → Good t × (written t ≡ written s ++ (w ∷ [])))
+    (ends-well : (s : S) (w : ℕ) → w < 2 ^ 32 → Good s → f .step s w ≡ ends → kind w ≡ 15)
+    (finishes : (s : S) (b : B) → Good s → f .finish s ≡ Ok b → Valid b × (written s ≡ words b))
   where
-  abbrev Accounts : S → List ℕ → B → Type 0
-  Accounts s bytes b = Valid b × (bytesOf (written s) ++ bytes ≡ file (words b))
+    abbrev Accounts : S → List ℕ → B → Type 0
+    Accounts s bytes b = Valid b × (bytesOf (written s) ++ bytes ≡ file (words b))
 
-  module _ (s : S) (p a b c d : ℕ) (rest : List ℕ) (book : B) (good : Good s) (at : p ≡ length (written s)) (fit : Bytes (a ∷ b ∷ c ∷ d ∷ rest)) (e : run f s p (a ∷ b ∷ c ∷ d ∷ rest) ≡ got book)
-    (below : (t : S) → Good t → p + 1 ≡ length (written t) → run f t (p + 1) rest ≡ got book → Accounts t rest book)
-    where
-    accounts-four : (st : Step S) → f .step s (wordOf a b c d) ≡ st → Accounts s (a ∷ b ∷ c ∷ d ∷ rest) book
-    accounts-four (wrong k) is = absurd (stop-is-no-book (sym (run-four f s p a b c d rest ∙ ap (after f s p (wordOf a b c d) rest) is) ∙ e))
-    accounts-four (more t) is =
-        let low : wordOf a b c d < 2 ^ 32 = omega (arith, fit .0, fit .1 .0, fit .1 .1 .0, fit .1 .1 .1 .0) in
-        let next = steps s t (wordOf a b c d) low good is in
-        let later = below t (next .0) (ap (λ n. n + 1) at ∙ sym (ap length (next .1) ∙ length-push (written s) (wordOf a b c d))) (sym (run-four f s p a b c d rest ∙ ap (after f s p (wordOf a b c d) rest) is) ∙ e) in
-        (later .0, sym (ap (λ l. l ++ rest) (ap bytesOf (next .1) ∙ bytes-append (written s) (wordOf a b c d ∷ []) ∙ ap (λ l. bytesOf (written s) ++ l) (bytes-of-word a b c d [] (fit .0) (fit .1 .0) (fit .1 .1 .0) (fit .1 .1 .1 .0))) ∙ append-assoc (bytesOf (written s)) (a ∷ b ∷ c ∷ d ∷ []) rest) ∙ later .1)
-    accounts-four ends is =
-        let low : wordOf a b c d < 2 ^ 32 = omega (arith, fit .0, fit .1 .0, fit .1 .1 .0, fit .1 .1 .1 .0) in
-        let told = whole-of (f .finish s) p (wordOf a b c d) rest book (sym (run-four f s p a b c d rest ∙ ap (after f s p (wordOf a b c d) rest) is) ∙ e) in
-        let done = finishes s book good (told .2) in
-        let fifteen = ends-well s (wordOf a b c d) low good is in
-        let last : wordOf a b c d ≡ endWord (length (written s)) = omega (arith, told .0, fifteen, at) in
-        let line : bytesOf (wordOf a b c d ∷ []) ≡ a ∷ (b ∷ (c ∷ (d ∷ []))) = bytes-of-word a b c d [] (fit .0) (fit .1 .0) (fit .1 .1 .0) (fit .1 .1 .1 .0) in
-        (done .0,
-         ap (λ l. bytesOf (written s) ++ (a ∷ (b ∷ (c ∷ (d ∷ l))))) (told .1)
-         ∙ ap (λ l. bytesOf (written s) ++ l) (sym line ∙ ap (λ w. bytesOf (w ∷ [])) last)
-         ∙ sym (bytes-append (written s) (endWord (length (written s)) ∷ []))
-         ∙ ap file (done .1))
+    module _ (s : S) (p a b c d : ℕ) (rest : List ℕ) (book : B) (good : Good s) (at : p ≡ length (written s)) (fit : Bytes (a ∷ b ∷ c ∷ d ∷ rest)) (e : run f s p (a ∷ b ∷ c ∷ d ∷ rest) ≡ got book)
+        (below : (t : S) → Good t → p + 1 ≡ length (written t) → run f t (p + 1) rest ≡ got book → Accounts t rest book)
+      where
+        accounts-four : (st : Step S) → f .step s (wordOf a b c d) ≡ st → Accounts s (a ∷ b ∷ c ∷ d ∷ rest) book
+        accounts-four (wrong k) is = absurd (stop-is-no-book (sym (run-four f s p a b c d rest ∙ ap (after f s p (wordOf a b c d) rest) is) ∙ e))
+        accounts-four (more t) is =
+            let low : wordOf a b c d < 2 ^ 32 = omega (arith, fit .0, fit .1 .0, fit .1 .1 .0, fit .1 .1 .1 .0) in
+            let next = steps s t (wordOf a b c d) low good is in
+            let later = below t (next .0) (ap (λ n. n + 1) at ∙ sym (ap length (next .1) ∙ length-push (written s) (wordOf a b c d))) (sym (run-four f s p a b c d rest ∙ ap (after f s p (wordOf a b c d) rest) is) ∙ e) in
+            (later .0, sym (ap (λ l. l ++ rest) (ap bytesOf (next .1) ∙ bytes-append (written s) (wordOf a b c d ∷ []) ∙ ap (λ l. bytesOf (written s) ++ l) (bytes-of-word a b c d [] (fit .0) (fit .1 .0) (fit .1 .1 .0) (fit .1 .1 .1 .0))) ∙ append-assoc (bytesOf (written s)) (a ∷ b ∷ c ∷ d ∷ []) rest) ∙ later .1)
+        accounts-four ends is =
+            let low : wordOf a b c d < 2 ^ 32 = omega (arith, fit .0, fit .1 .0, fit .1 .1 .0, fit .1 .1 .1 .0) in
+            let told = whole-of (f .finish s) p (wordOf a b c d) rest book (sym (run-four f s p a b c d rest ∙ ap (after f s p (wordOf a b c d) rest) is) ∙ e) in
+            let done = finishes s book good (told .2) in
+            let fifteen = ends-well s (wordOf a b c d) low good is in
+            let last : wordOf a b c d ≡ endWord (length (written s)) = omega (arith, told .0, fifteen, at) in
+            let line : bytesOf (wordOf a b c d ∷ []) ≡ a ∷ (b ∷ (c ∷ (d ∷ []))) = bytes-of-word a b c d [] (fit .0) (fit .1 .0) (fit .1 .1 .0) (fit .1 .1 .1 .0) in (
+              done .0,
+              ap (λ l. bytesOf (written s) ++ (a ∷ (b ∷ (c ∷ (d ∷ l))))) (told .1)
+                  ∙ ap (λ l. bytesOf (written s) ++ l) (sym line ∙ ap (λ w. bytesOf (w ∷ [])) last)
+                  ∙ sym (bytes-append (written s) (endWord (length (written s)) ∷ []))
+                  ∙ ap file (done .1),
+            )
 
-  accounts : (s : S) (p : ℕ) (bytes : List ℕ) (book : B) → Good s → p ≡ length (written s) → Bytes bytes → run f s p bytes ≡ got book → Accounts s bytes book
-  unfolding run
-  accounts s p [] book good at fit e = absurd (stop-is-no-book e)
-  accounts s p (a ∷ []) book good at fit e = absurd (stop-is-no-book e)
-  accounts s p (a ∷ b ∷ []) book good at fit e = absurd (stop-is-no-book e)
-  accounts s p (a ∷ b ∷ c ∷ []) book good at fit e = absurd (stop-is-no-book e)
-  accounts s p (a ∷ b ∷ c ∷ d ∷ rest) book good at fit e =
-      accounts-four s p a b c d rest book good at fit e (λ t g n h. accounts t (p + 1) rest book g n (fit .1 .1 .1 .1) h) (f .step s (wordOf a b c d)) refl
+    accounts : (s : S) (p : ℕ) (bytes : List ℕ) (book : B) → Good s → p ≡ length (written s) → Bytes bytes → run f s p bytes ≡ got book → Accounts s bytes book
+    unfolding run
+    accounts s p [] book good at fit e = absurd (stop-is-no-book e)
+    accounts s p (a ∷ []) book good at fit e = absurd (stop-is-no-book e)
+    accounts s p (a ∷ b ∷ []) book good at fit e = absurd (stop-is-no-book e)
+    accounts s p (a ∷ b ∷ c ∷ []) book good at fit e = absurd (stop-is-no-book e)
+    accounts s p (a ∷ b ∷ c ∷ d ∷ rest) book good at fit e =
+        accounts-four s p a b c d rest book good at fit e (λ t g n h. accounts t (p + 1) rest book g n (fit .1 .1 .1 .1) h) (f .step s (wordOf a b c d)) refl
 
-  -- whatever is accepted is the encoding of the book that was read
-  pub only-encodings : Good (f .start) → written (f .start) ≡ [] → OnlyEncodings f Valid words
-  only-encodings good none bytes book fit e =
-      let told = accounts (f .start) 0 bytes book good (sym (ap length none)) fit e in
-      (told .0, sym (ap (λ l. bytesOf l ++ bytes) none) ∙ told .1)
+    -- whatever is accepted is the encoding of the book that was read
+    pub only-encodings : Good (f .start) → written (f .start) ≡ [] → OnlyEncodings f Valid words
+    only-encodings good none bytes book fit e =
+        let told = accounts (f .start) 0 bytes book good (sym (ap length none)) fit e in
+        (told .0, sym (ap (λ l. bytesOf l ++ bytes) none) ∙ told .1)
 
 -- the words ws lead from s to t
 abbrev pub Passes : {S B : Type 0} → Format S B → S → List ℕ → S → Type 0

@@ -21,7 +21,7 @@ field-below w low width = mod-lt (w / 2 ^ low) (pow-pos width)
 pub field-put : (below v above low width : ℕ) → below < 2 ^ low → v < 2 ^ width → field (below + 2 ^ low * (v + 2 ^ width * above)) low width ≡ v
 field-put below v above low width h k =
     let at : (below + 2 ^ low * (v + 2 ^ width * above)) / 2 ^ low ≡ v + 2 ^ width * above =
-      ap (λ x. x / 2 ^ low) (add-comm below (2 ^ low * (v + 2 ^ width * above)) ∙ ap (λ x. x + below) (mul-comm (2 ^ low) (v + 2 ^ width * above))) ∙ shr-high (v + 2 ^ width * above) low below h in
+    ap (λ x. x / 2 ^ low) (add-comm below (2 ^ low * (v + 2 ^ width * above)) ∙ ap (λ x. x + below) (mul-comm (2 ^ low) (v + 2 ^ width * above))) ∙ shr-high (v + 2 ^ width * above) low below h in
     ap (λ x. x % 2 ^ width) (at ∙ add-comm v (2 ^ width * above) ∙ ap (λ x. x + v) (mul-comm (2 ^ width) above)) ∙ mod-low above width v k
 
 pub kind-put : (below k : ℕ) → below < 2 ^ 28 → kind (k * 2 ^ 28 + below) ≡ k

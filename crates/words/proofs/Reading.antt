@@ -54,13 +54,13 @@ same-place e = ap placed e
 ending-place : {B : Type 0} (whole : Result B Refusal) (p w : ℕ) (last : Bool) (r : Refusal) (q : ℕ) → ending whole p w last ≡ stop r q → p ≡ q
 ending-place (Ok b) p w last r q e =
     elim (cases-bool (eqb (w % 2 ^ 28) p && last)) [
-      inl t ↦ let z : _≡_ {A = ℕ} 0 1 = cc (ap (λ t. cond t (closing (Ok b) p) (stop WrongEnd p)) t, e) in absurd (omega arith)
-    | inr t ↦ same-place (sym (ap (λ t. cond t (closing (Ok b) p) (stop WrongEnd p)) t) ∙ e)
+      | inl t ↦ let z : _≡_ {A = ℕ} 0 1 = cc (ap (λ t. cond t (closing (Ok b) p) (stop WrongEnd p)) t, e) in absurd (omega arith)
+      | inr t ↦ same-place (sym (ap (λ t. cond t (closing (Ok b) p) (stop WrongEnd p)) t) ∙ e)
     ]
 ending-place {B} (Err k) p w last r q e =
     elim (cases-bool (eqb (w % 2 ^ 28) p && last)) [
-      inl t ↦ same-place {B = B} (sym (ap (λ t. cond t (closing (Err k) p) (stop WrongEnd p)) t) ∙ e)
-    | inr t ↦ same-place {B = B} (sym (ap (λ t. cond t (closing (Err k) p) (stop WrongEnd p)) t) ∙ e)
+      | inl t ↦ same-place {B = B} (sym (ap (λ t. cond t (closing (Err k) p) (stop WrongEnd p)) t) ∙ e)
+      | inr t ↦ same-place {B = B} (sym (ap (λ t. cond t (closing (Err k) p) (stop WrongEnd p)) t) ∙ e)
     ]
 
 module _ {S B : Type 0} (f : Format S B) where

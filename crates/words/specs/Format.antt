@@ -61,9 +61,9 @@ run f s p (a ∷ b ∷ []) = stop CutOff p
 run f s p (a ∷ b ∷ c ∷ []) = stop CutOff p
 run f s p (a ∷ b ∷ c ∷ d ∷ rest) =
     elim (f .step s (wordOf a b c d)) [
-      wrong r ↦ stop r p
-    | more t ↦ run f t (p + 1) rest
-    | ends ↦ ending (f .finish s) p (wordOf a b c d) (isNil rest)
+      | wrong r ↦ stop r p
+      | more t ↦ run f t (p + 1) rest
+      | ends ↦ ending (f .finish s) p (wordOf a b c d) (isNil rest)
     ]
 
 abbrev pub reading : {S B : Type 0} → Format S B → List ℕ → Verdict B

@@ -25,7 +25,11 @@ pub fn field(word: u32, low: u32, width: u32) -> u32
         return 0;
     }
     let high = word >> low;
-    if width >= 32 { high } else { high % (1 << width) }
+    if width >= 32 {
+        high
+    } else {
+        high % (1 << width)
+    }
 }
 
 // Whether a mask has no bit at or above `count`.

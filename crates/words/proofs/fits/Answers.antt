@@ -17,9 +17,9 @@ returns-then-count-ge32 c =
 pub returns-else-count-ge32 : need.returns-else-count-ge32
 returns-else-count-ge32 c =
     elim (cases-lt (c .args .mask) (2 ^ (c .args .count))) [
-      inl small ↦ eq-eqb (c .args .mask / 2 ^ (c .args .count)) 0 (div-eq-of-lt small) ∙ sym (lt-ltb (c .args .mask) (2 ^ (c .args .count)) small)
-    | inr big ↦
-        let up : 1 * 2 ^ (c .args .count) ≤ c .args .mask = omega arith in
-        let some = le-div 1 (c .args .mask) (2 ^ (c .args .count)) (pow-pos (c .args .count)) up in
-        ne-eqb (c .args .mask / 2 ^ (c .args .count)) 0 (λ z. omega arith) ∙ sym (le-ltb (c .args .mask) (2 ^ (c .args .count)) big)
+      | inl small ↦ eq-eqb (c .args .mask / 2 ^ (c .args .count)) 0 (div-eq-of-lt small) ∙ sym (lt-ltb (c .args .mask) (2 ^ (c .args .count)) small)
+      | inr big ↦
+          let up : 1 * 2 ^ (c .args .count) ≤ c .args .mask = omega arith in
+          let some = le-div 1 (c .args .mask) (2 ^ (c .args .count)) (pow-pos (c .args .count)) up in
+          ne-eqb (c .args .mask / 2 ^ (c .args .count)) 0 (λ z. omega arith) ∙ sym (le-ltb (c .args .mask) (2 ^ (c .args .count)) big)
     ]
