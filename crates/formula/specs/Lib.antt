@@ -1,0 +1,4 @@
+pub mod Formulas
+pub mod Merging
+pub mod Resting
+pub mod Items

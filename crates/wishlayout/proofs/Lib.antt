@@ -1,0 +1,2 @@
+pub mod OneWords
+pub mod Way

@@ -1,0 +1,3 @@
+pub mod Wishes
+pub mod OneWord
+pub mod Layout
