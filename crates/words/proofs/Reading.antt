@@ -9,7 +9,7 @@ use lib.Dec.{eqb}
 use lib.ListN.{length, take, drop, getD}
 use Rattle.std.specs.declared.result.Result.{Result}
 use Rattle.std.specs.declared.result.Result.the-variants.{Ok, Err}
-use Rattle.std.proofs.shelf.Tests.{cases-bool}
+use Rattle.std.proofs.shelf.Tests.{cases-bool, cond-true, cond-false, and-from, and-left, and-right, eq-eqb, ne-eqb}
 use Rattle.refusal.specs.declared.Refusal.{Refusal}
 use Rattle.refusal.specs.declared.Refusal.the-variants.{CutOff, WrongEnd}
 use Rattle.words.specs.Words.{wordOf, firstWord, endWord, bytesOf, Bytes}
@@ -97,3 +97,29 @@ module _ {S B : Type 0} (f : Format S B) where
   places-right bytes r p e =
       let same : p - 0 ≡ p = omega arith in
       subst (λ n. run f (f .start) 0 (take (4 * n) bytes) ≡ stop CutOff p) same (runs-out (f .start) 0 bytes r p e .1)
+
+-- one turn of a reader: what the word that was taken does
+pub turn : {S B : Type 0} (f : Format S B) (s : S) (p : ℕ) (left rest : List ℕ) (w : ℕ) (st : Step S) → (4 ≤ length left) × (w ≡ firstWord left) × (rest ≡ drop 4 left) → st ≡ f .step s w → run f s p left ≡ after f s p w rest st
+turn f s p left rest w st (four, word, tail) is =
+    run-word f s p left four
+    ∙ ap (λ x. after f s p x (drop 4 left) (f .step s x)) (sym word)
+    ∙ ap (λ l. after f s p w l (f .step s w)) (sym tail)
+    ∙ ap (after f s p w rest) (sym is)
+
+nil-since : (rest : List ℕ) → length rest ≡ 0 → isNil rest ≡ true
+nil-since [] h = refl
+nil-since (x ∷ rest) h = absurd (omega arith)
+
+some-since : (rest : List ℕ) → (length rest ≡ 0 → ⊥) → isNil rest ≡ false
+some-since [] h = absurd (h refl)
+some-since (x ∷ rest) h = refl
+
+-- an end word with the right number, and nothing after it
+pub right-end : {B : Type 0} (whole : Result B Refusal) (p w : ℕ) (rest : List ℕ) → w % 2 ^ 28 ≡ p → length rest ≡ 0 → ending whole p w (isNil rest) ≡ closing whole p
+right-end whole p w rest own none = cond-true (eqb (w % 2 ^ 28) p && isNil rest) (closing whole p) (stop WrongEnd p) (and-from (eqb (w % 2 ^ 28) p) (isNil rest) (eq-eqb (w % 2 ^ 28) p own) (nil-since rest none))
+
+pub wrong-number : {B : Type 0} (whole : Result B Refusal) (p w : ℕ) (rest : List ℕ) → (w % 2 ^ 28 ≡ p → ⊥) → ending whole p w (isNil rest) ≡ stop WrongEnd p
+wrong-number whole p w rest other = cond-false (eqb (w % 2 ^ 28) p && isNil rest) (closing whole p) (stop WrongEnd p) (and-left (eqb (w % 2 ^ 28) p) (isNil rest) (ne-eqb (w % 2 ^ 28) p other))
+
+pub more-after : {B : Type 0} (whole : Result B Refusal) (p w : ℕ) (rest : List ℕ) → (length rest ≡ 0 → ⊥) → ending whole p w (isNil rest) ≡ stop WrongEnd p
+more-after whole p w rest some = cond-false (eqb (w % 2 ^ 28) p && isNil rest) (closing whole p) (stop WrongEnd p) (and-right (eqb (w % 2 ^ 28) p) (isNil rest) (some-since rest some))
