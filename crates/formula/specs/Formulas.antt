@@ -1,6 +1,6 @@
 -- A formula about the past is a tree. A list of nodes writes formulas: the operands of a node number earlier nodes of the list, counted from 0.
 -- `formulas` reads the list from left to right: the tree of each node is made from the trees before it.
-use mathlib.Core.Bool.{Bool, true, false, _&&_}
+use mathlib.Core.Bool.{Bool, true, _&&_}
 use mathlib.Core.List.{List, [], _∷_, _++_}
 use Prim.Native.Nat.{ℕ, suc}
 use lib.Dec.{ltb}

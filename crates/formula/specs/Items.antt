@@ -4,9 +4,11 @@ use mathlib.Core.Bool.{Bool, true, false, cond, _&&_, _||_}
 use mathlib.Core.List.{List, [], _∷_, _++_, map}
 use mathlib.Core.Logic.{_⊎_}
 use mathlib.Core.Path.{_≡_}
-use Prim.Native.Nat.{ℕ, zero, suc, _+_, _*_, _<_}
+use Prim.Native.Nat.{ℕ, zero, suc, _+_, _*_, _≤_, _<_}
 use lib.Dec.{eqb}
-use lib.ListN.{length, getD}
+use lib.ListN.{length, getD, take, drop}
+use Rattle.std.specs.declared.option.Option.{Option}
+use Rattle.std.specs.declared.option.Option.the-variants.{Some, None}
 use Rattle.std.specs.shelf.Lists.{Has}
 use Rattle.formula.specs.declared.Node.{Node}
 use Rattle.formula.specs.declared.Node.the-variants.{Label, True, Not, And, Or, Previous, Since, Always, Once}
@@ -89,3 +91,15 @@ pub record Selected (nodes : List Node) (used : List Bool) (items : List Item) :
   pub failedKept : (i : ℕ) → i < length nodes → getD used i false ≡ true → isAlways (getD nodes i True) ≡ true → Has items (Failed i)
   pub failedOnly : (i : ℕ) → Has items (Failed i) → (i < length nodes) × (getD used i false ≡ true) × (isAlways (getD nodes i True) ≡ true)
   pub rising : (j k : ℕ) (d : Item) → j < k → k < length items → rank (getD items j d) < rank (getD items k d)
+
+-- more items after the first len of a table, whose contents before and after are given; or there is no room, and nothing is written
+abbrev pub Appended : List Item → ℕ → List Item → List Item → Option ℕ → Type 0
+Appended more len items items′ (Some n) = (n ≡ len + length more) × (take n items′ ≡ take len items ++ more) × (drop n items′ ≡ drop n items) × (len ≤ length items → n ≤ length items)
+Appended more len items items′ None = (length items < len + length more) × (items′ ≡ items)
+
+-- the kept items stand first in the table, and the rest is as it was; or they do not fit, and the first of them fill it; or there are too many nodes, and it is as it was
+abbrev pub Keeps : List Node → List Bool → List Item → List Item → Option ℕ → Type 0
+Keeps nodes used items items′ (Some n) =
+    (length nodes ≤ 128) × (n ≤ length items) × (n ≡ length (keptItems nodes used)) × (take n items′ ≡ keptItems nodes used) × (drop n items′ ≡ drop n items)
+Keeps nodes used items items′ None =
+    ((128 < length nodes) × (items′ ≡ items)) ⊎ ((length nodes ≤ 128) × (length items < length (keptItems nodes used)) × (items′ ≡ take (length items) (keptItems nodes used)))

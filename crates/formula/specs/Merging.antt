@@ -1,11 +1,14 @@
 -- Node words with the same kind and fields, operands merged first, are one node; the nodes are numbered by first appearance.
 -- Merging reads the words from left to right: it keeps the nodes so far, and the number of the node of each word so far.
-use mathlib.Core.Bool.{Bool, true, false, _&&_}
+use mathlib.Core.Bool.{Bool, true, _&&_}
 use mathlib.Core.List.{List, [], _∷_, _++_}
+use mathlib.Core.Logic.{_⊎_}
 use mathlib.Core.Path.{_≡_}
-use Prim.Native.Nat.{ℕ, _<_}
+use Prim.Native.Nat.{ℕ, _+_, _≤_, _<_}
 use lib.Dec.{eqb}
-use lib.ListN.{length, getD}
+use lib.ListN.{length, getD, take, drop}
+use Rattle.std.specs.declared.option.Option.{Option}
+use Rattle.std.specs.declared.option.Option.the-variants.{Some, None}
 use Rattle.register.specs.Keys.{enter, placeOf, Kept}
 use Rattle.formula.specs.declared.Node.{Node}
 use Rattle.formula.specs.declared.Node.the-variants.{Label, True, Not, And, Or, Previous, Since, Always, Once}
@@ -93,3 +96,37 @@ pub record Faithful (ws : List Node) : Type 0 where
   pub stillEarlier : earlier (nodesOf ws) ≡ true
   pub allNumbered : length (numbersOf ws) ≡ length ws
   pub inRange : (i : ℕ) → i < length ws → getD (numbersOf ws) i 0 < length (nodesOf ws)
+
+-- merging in two tables, whose contents before and after are given: the nodes and the numbers stand first in them, and the rest is as it was
+pub record Written (ws nodes nodes′ : List Node) (numbers numbers′ : List ℕ) (n : ℕ) : Type 0 where
+  pub few : length ws ≤ 128
+  pub numbersFit : length ws ≤ length numbers
+  pub nodesFit : n ≤ length nodes
+  pub count : n ≡ length (nodesOf ws)
+  pub nodesAre : take n nodes′ ≡ nodesOf ws
+  pub nodesRest : drop n nodes′ ≡ drop n nodes
+  pub numbersAre : take (length ws) numbers′ ≡ numbersOf ws
+  pub numbersRest : drop (length ws) numbers′ ≡ drop (length ws) numbers
+
+-- the nodes do not fit: the first of them fill their table, and the words before the first whose node found no room have their numbers
+pub record Overfull (ws nodes nodes′ : List Node) (numbers numbers′ : List ℕ) : Type 0 where
+  pub few : length ws ≤ 128
+  pub numbersFit : length ws ≤ length numbers
+  pub over : length nodes < length (nodesOf ws)
+  pub filled : nodes′ ≡ take (length nodes) (nodesOf ws)
+  pub word : ℕ
+  pub wordIn : word < length ws
+  pub fullBefore : length (nodesOf (take word ws)) ≡ length nodes
+  pub overAfter : length nodes < length (nodesOf (take (word + 1) ws))
+  pub numbersAre : take word numbers′ ≡ numbersOf (take word ws)
+  pub numbersRest : drop word numbers′ ≡ drop word numbers
+
+-- too many words, or too short a table for their numbers: nothing is written
+pub record Unread (ws nodes nodes′ : List Node) (numbers numbers′ : List ℕ) : Type 0 where
+  pub why : (128 < length ws) ⊎ (length numbers < length ws)
+  pub nodesSame : nodes′ ≡ nodes
+  pub numbersSame : numbers′ ≡ numbers
+
+abbrev pub Merges : List Node → List Node → List Node → List ℕ → List ℕ → Option ℕ → Type 0
+Merges ws nodes nodes′ numbers numbers′ (Some n) = Written ws nodes nodes′ numbers numbers′ n
+Merges ws nodes nodes′ numbers numbers′ None = Unread ws nodes nodes′ numbers numbers′ ⊎ Overfull ws nodes nodes′ numbers numbers′

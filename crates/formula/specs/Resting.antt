@@ -1,14 +1,15 @@
 -- A reward rests on its node and on every operand below that.
 -- `Rests` says so by a derivation from the roots, the nodes of the rewards; `resting` finds it, from the highest node down.
 use mathlib.Core.Bool.{Bool, true, false, cond}
-use mathlib.Core.List.{List, [], _∷_}
+use mathlib.Core.List.{List, [], _∷_, _++_}
 use mathlib.Core.Path.{_≡_}
-use Prim.Native.Nat.{ℕ, zero, suc, _<_}
+use Prim.Native.Nat.{ℕ, zero, suc, _-_, _≤_, _<_}
 use lib.ListN.{length, getD, set, replicate}
+use Rattle.std.specs.declared.option.Option.{Option}
+use Rattle.std.specs.declared.option.Option.the-variants.{Some, None}
 use Rattle.std.specs.shelf.Lists.{Has}
 use Rattle.formula.specs.declared.Node.{Node}
 use Rattle.formula.specs.declared.Node.the-variants.{Label, True, Not, And, Or, Previous, Since, Always, Once}
-use Rattle.formula.specs.Formulas.{earlier}
 
 abbrev pub operands : Node → List ℕ
 operands (Label p) = []
@@ -43,3 +44,8 @@ resting nodes roots = spread nodes (length nodes) (markAll (replicate (length no
 pub record Exact (nodes : List Node) (roots : List ℕ) : Type 0 where
   pub every : (i : ℕ) → i < length nodes → Rests nodes roots i → getD (resting nodes roots) i false ≡ true
   pub only : (i : ℕ) → i < length nodes → getD (resting nodes roots) i false ≡ true → Rests nodes roots i
+
+-- the marks of at most 128 nodes, in a table of 128
+abbrev pub Rested : List Node → List ℕ → Option (List Bool) → Type 0
+Rested nodes roots (Some ms) = (length nodes ≤ 128) × (ms ≡ resting nodes roots ++ replicate (128 - length nodes) false)
+Rested nodes roots None = 128 < length nodes

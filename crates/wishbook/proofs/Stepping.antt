@@ -1,8 +1,8 @@
 -- What one word adds to what was gathered, and that this is a step of the wish book's format.
-use mathlib.Core.Bool.{Bool, true, false, cond, not}
+use mathlib.Core.Bool.{Bool, true, false, cond, not, _&&_}
 use mathlib.Core.List.{List, [], _∷_, _++_}
 use mathlib.Core.Path.{_≡_, refl, sym, ap, subst, _∙_}
-use Prim.Native.Nat.{ℕ, zero, suc, _+_, _<_, _≤_}
+use Prim.Native.Nat.{ℕ, zero, suc, _+_, _%_, _^_, _<_, _≤_}
 use native.Mathlib.Omega.{arith}
 use lib.Dec.{eqb, ltb}
 use lib.ListN.{length, take, set}
@@ -12,16 +12,18 @@ use Rattle.std.proofs.shelf.Lists.{length-take-le, take-more-set, length-push}
 use Rattle.std.proofs.shelf.Tests.{eq-eqb, ne-eqb, lt-ltb}
 use Rattle.formula.specs.declared.Node.{Node}
 use Rattle.refusal.specs.declared.Refusal.{Refusal}
-use Rattle.refusal.specs.declared.Refusal.the-variants.{WrongKind}
+use Rattle.refusal.specs.declared.Fault.{Fault}
+use Rattle.refusal.specs.declared.Refusal.the-variants.{WrongKind, WrongEnd}
 use Rattle.words.specs.Words.{kind}
-use Rattle.words.specs.Format.{wrong, more, ends, check, onto}
+use Rattle.words.specs.Format.{wrong, more, ends, check, onto, stop, closing, ending, isNil, reading}
 use Rattle.words.specs.Tests.{none}
 use Rattle.words.proofs.Tests.{check-passed}
 use Rattle.wishlayout.specs.declared.Wish.{Wish}
-use Rattle.wishlayout.specs.Layout.{Draft, noding, wishing, readWish, readWord}
+use Rattle.wishlayout.specs.Layout.{Draft, noding, wishing, readWish, readWord, wholeBook, wishFormat, Good}
 use Rattle.wishlayout.specs.OneWord.{nodeOf, wishOf}
 use Rattle.wishbook.specs.declared.gathered.Gathered.{Gathered}
 use Rattle.wishbook.specs.Gathering.{draftOf}
+use Rattle.wishbook.specs.Gathers.{nodesIn, wishesIn, endedAt, Gathers}
 use Rattle.wishbook.specs.Steps.{NodeAdded, WishAdded, Stepped}
 
 pub node-added : (nodes : List Node) (count w : ℕ) (n : Node) → length nodes ≡ 128 → count < 128 → Ok n ≡ nodeOf count w → NodeAdded (take count nodes) w (take (count + 1) (set nodes count n)) (Ok false)
@@ -124,3 +126,31 @@ by-wish g t w (Ok false) z isnt same e =
 by-wish g t w (Err r) z isnt same e =
     ap (λ d. readWord d w) (draft-wishing g z)
     ∙ wish-steps (take (g .count) (g .nodes)) (take (g .wished) (g .wishes)) (take (t .wished) (t .wishes)) w (Err r) isnt e
+
+-- only an end word ends
+
+pub err-no-end : (r : Refusal) → _≡_ {A = Result Bool Refusal} (Err r) (Ok true) → ⊥
+err-no-end r e = let z : _≡_ {A = ℕ} 0 1 = cc in omega arith
+
+more-no-end : _≡_ {A = Result Bool Refusal} (Ok false) (Ok true) → ⊥
+more-no-end e = let z : _≡_ {A = ℕ} 0 1 = cc in omega arith
+
+pub not-ended-node : (ns : List Node) (w : ℕ) (ms : List Node) (r : Result Bool Refusal) → NodeAdded ns w ms r → {P : Type 0} → r ≡ Ok true → P
+not-ended-node ns w ms (Ok true) a e = absurd a
+not-ended-node ns w ms (Ok false) a e = absurd (more-no-end e)
+not-ended-node ns w ms (Err r) a e = absurd (err-no-end r e)
+
+pub not-ended-wish : (ns : List Node) (ws : List Wish) (w : ℕ) (vs : List Wish) (r : Result Bool Refusal) → WishAdded ns ws w vs r → {P : Type 0} → r ≡ Ok true → P
+not-ended-wish ns ws w vs (Ok true) a e = absurd a
+not-ended-wish ns ws w vs (Ok false) a e = absurd (more-no-end e)
+not-ended-wish ns ws w vs (Err r) a e = absurd (err-no-end r e)
+
+-- at the end word: what was gathered is judged next, or the end word is wrong
+pub gathered-end : (bytes : List ℕ) (g t : Gathered) (p w : ℕ) (rest : List ℕ) (last : Bool) (r : Result (Gathered × ℕ) Fault)
+    → reading wishFormat bytes ≡ ending (wholeBook (draftOf g)) p w (isNil rest) → Good (draftOf g) → draftOf t ≡ draftOf g → (t .wished ≡ 0 → ⊥) → last ≡ (eqb (w % 2 ^ 28) p && isNil rest) → r ≡ endedAt t p last → Gathers bytes r
+gathered-end bytes g t p w rest true r e good same some is out =
+    let whole : draftOf g ≡ wishing (nodesIn t) (wishesIn t) = sym same ∙ draft-wishing t some in
+    subst (Gathers bytes) (sym out)
+    (e ∙ ap (λ b. cond b (closing (wholeBook (draftOf g)) p) (stop WrongEnd p)) (sym is) ∙ ap (λ d. closing (wholeBook d) p) whole, subst Good whole good)
+gathered-end bytes g t p w rest false r e good same some is out =
+    subst (Gathers bytes) (sym out) (e ∙ ap (λ b. cond b (closing (wholeBook (draftOf g)) p) (stop WrongEnd p)) (sym is))

@@ -1,8 +1,10 @@
 // Reading a wish book up to its end word.
-ghost use Rattle.wishbook.specs.Gathers.{Gathers, Closes};
+ghost use mathlib.Core.Path.{_≡_};
+ghost use Rattle.wishbook.specs.Gathers.{Gathers, endedAt};
 use crate::gathered::Gathered;
 use refusal::Fault;
 use refusal::Refusal;
+use words::is_last;
 use words::next_word;
 
 // What a file holds, and the place of its end word; or the first refusal.
@@ -23,7 +25,7 @@ pub fn gather(bytes: &[u8]) -> Result<(Gathered, usize), Fault>
             Err(refusal) => return Err(Fault { refusal, place }),
             Ok(done) => {
                 if done {
-                    return end(gathered, word, place, rest);
+                    return ended(gathered, place, is_last(word, place, rest));
                 }
             }
         }
@@ -32,15 +34,16 @@ pub fn gather(bytes: &[u8]) -> Result<(Gathered, usize), Fault>
     }
 }
 
-// At the end word: its number is that of the words before it, and nothing follows.
-fn end(gathered: Gathered, word: u32, place: usize, rest: &[u8]) -> Result<(Gathered, usize), Fault>
-    ensures { λ r. ⌜ Closes gathered word place (now (rest .entry)) r ⌝ }
+// At the end word, which is in order or not.
+fn ended(gathered: Gathered, place: usize, last: bool) -> Result<(Gathered, usize), Fault>
+    ensures { λ r. ⌜ r ≡ endedAt gathered place last ⌝ }
 {
-    if word as usize % (1 << 28) != place || rest.len() != 0 {
-        return Err(Fault {
+    if last {
+        Ok((gathered, place))
+    } else {
+        Err(Fault {
             refusal: Refusal::WrongEnd,
             place,
-        });
+        })
     }
-    Ok((gathered, place))
 }

@@ -27,21 +27,13 @@ use Rattle.words.proofs.Tests.{all-push, check-more, check-ends, check-passed, 
 use Rattle.wishlayout.specs.declared.Wish.{Wish}
 use Rattle.wishlayout.specs.OneWord.{nodeWord, wishWord, nodeOf, wishOf}
 use Rattle.wishlayout.specs.Wishes.{Wishes, itemsFor, goodLabel, goodWish, valid}
-use Rattle.wishlayout.specs.Layout.{nodeWords, amountWords, wishWords, Draft, noding, wishing, readWish, readWord, wholeBook, wishFormat}
+use Rattle.wishlayout.specs.Layout.{nodeWords, amountWords, wishWords, Draft, noding, wishing, readWish, readWord, wholeBook, wishFormat, GoodNodes, Good}
 use Rattle.wishlayout.proofs.OneWords.{node-reads, wish-reads, node-kind, node-written, wish-written}
 
 -- the words that a draft was read from
 abbrev written : Draft → List ℕ
 written (noding ns) = nodeWords ns
 written (wishing ns ws) = nodeWords ns ++ amountWords ws
-
-abbrev GoodNodes : List Node → Type 0
-GoodNodes ns = (earlier ns ≡ true) × ((all goodLabel ns ≡ true) × (length ns ≤ 128))
-
--- what is known of a draft
-abbrev Good : Draft → Type 0
-Good (noding ns) = GoodNodes ns
-Good (wishing ns ws) = GoodNodes ns × ((1 ≤ length ns) × ((1 ≤ length ws) × ((length ws ≤ 16) × (all (goodWish (length ns)) ws ≡ true))))
 
 node-words-push : (ns : List Node) (n : Node) → nodeWords (ns ++ (n ∷ [])) ≡ nodeWords ns ++ (nodeWord n ∷ [])
 node-words-push [] n = refl
@@ -83,9 +75,9 @@ wish-next ns ws w t g some few each e =
       ap (λ l. nodeWords ns ++ l) (amount-words-push ws (said .0) ∙ ap (λ v. amountWords ws ++ (v ∷ [])) (sym (told .0))) ∙ sym (append-assoc (nodeWords ns) (amountWords ws) (w ∷ [])),
     )
 
-word-kept : (d t : Draft) (w : ℕ) → w < 2 ^ 32 → Good d → readWord d w ≡ more t → Good t × (written t ≡ written d ++ (w ∷ []))
+pub word-kept : (d t : Draft) (w : ℕ) → Good d → readWord d w ≡ more t → Good t × (written t ≡ written d ++ (w ∷ []))
 unfolding readWord
-word-kept (noding ns) t w low g e =
+word-kept (noding ns) t w g e =
     elim (cases-bool (eqb (kind w) 10)) [
       | inl is ↦
           let some = check-more (not (none ns)) WrongKind (readWish ns [] w) t (sym (ap (λ b. cond b (check (not (none ns)) WrongKind (readWish ns [] w)) (check (ltb (length ns) 128) WrongKind (onto (nodeOf (length ns) w) (λ n. more (noding (ns ++ (n ∷ []))))))) is) ∙ e) in
@@ -101,7 +93,7 @@ word-kept (noding ns) t w low g e =
             node-words-push ns (said .0) ∙ ap (λ v. nodeWords ns ++ (v ∷ [])) (sym (told .0)),
           )
     ]
-word-kept (wishing ns ws) t w low g e =
+word-kept (wishing ns ws) t w g e =
     elim (cases-bool (eqb (kind w) 15)) [
       | inl is ↦ let z : _≡_ {A = ℕ} 0 1 = cc (ap (λ b. cond b ends (check (ltb (length ws) 16) WrongKind (readWish ns ws w))) is, e) in absurd (omega arith)
       | inr isnt ↦
@@ -271,5 +263,5 @@ pub wish-faithful : Faithful wishFormat (λ b. valid b ≡ true) wishWords
 wish-faithful = record {
   places = places-right wishFormat;
   back = λ b e. reads-back-from (b .nodes) (b .wishes) (validly b e);
-  only = only-encodings wishFormat (λ b. valid b ≡ true) wishWords Good written word-kept end-word book-kept (refl, (refl, omega arith)) refl;
+  only = only-encodings wishFormat (λ b. valid b ≡ true) wishWords Good written (λ s t w low. word-kept s t w) end-word book-kept (refl, (refl, omega arith)) refl;
 }

@@ -1,20 +1,22 @@
 -- How a wish book is written in words, and how it is read: 1 to 128 node words, 1 to 16 wishes, and the end word.
-use mathlib.Core.Bool.{Bool, cond, not}
+use mathlib.Core.Bool.{Bool, true, cond, not}
 use mathlib.Core.List.{List, [], _∷_, _++_}
-use Prim.Native.Nat.{ℕ}
+use mathlib.Core.Path.{_≡_}
+use Prim.Native.Nat.{ℕ, _≤_}
 use lib.Dec.{eqb, ltb, leb}
 use lib.ListN.{length}
 use Rattle.std.specs.declared.result.Result.{Result}
 use Rattle.std.specs.declared.result.Result.the-variants.{Ok, Err}
 use Rattle.formula.specs.declared.Node.{Node}
+use Rattle.formula.specs.Formulas.{earlier}
 use Rattle.refusal.specs.declared.Refusal.{Refusal}
 use Rattle.refusal.specs.declared.Refusal.the-variants.{WrongKind, TooManyItems}
 use Rattle.words.specs.Words.{kind}
 use Rattle.words.specs.Format.{Step, more, ends, check, onto, Format}
-use Rattle.words.specs.Tests.{none}
+use Rattle.words.specs.Tests.{all, none}
 use Rattle.wishlayout.specs.declared.Wish.{Wish}
 use Rattle.wishlayout.specs.OneWord.{nodeWord, wishWord, nodeOf, wishOf}
-use Rattle.wishlayout.specs.Wishes.{Wishes, itemsFor}
+use Rattle.wishlayout.specs.Wishes.{Wishes, itemsFor, goodLabel, goodWish}
 
 -- writing
 
@@ -55,3 +57,12 @@ wholeBook (wishing ns ws) = cond (leb (length (itemsFor ns ws)) 16) (Ok (record 
 
 abbrev pub wishFormat : Format Draft Wishes
 wishFormat = record { start = noding []; step = readWord; finish = wholeBook }
+
+-- what holds of every draft that a reader comes to
+
+abbrev pub GoodNodes : List Node → Type 0
+GoodNodes ns = (earlier ns ≡ true) × ((all goodLabel ns ≡ true) × (length ns ≤ 128))
+
+abbrev pub Good : Draft → Type 0
+Good (noding ns) = GoodNodes ns
+Good (wishing ns ws) = GoodNodes ns × ((1 ≤ length ns) × ((1 ≤ length ws) × ((length ws ≤ 16) × (all (goodWish (length ns)) ws ≡ true))))

@@ -1,9 +1,11 @@
 // Words of a book: four bytes each, lowest first.
+ghost use mathlib.Core.Bool.{_&&_};
 ghost use mathlib.Core.Path.{_≡_};
 ghost use Prim.Native.Nat.{ℕ, _+_, _*_, _/_, _%_, _^_, _<_, _≤_};
-ghost use lib.Dec.{ltb};
+ghost use lib.Dec.{eqb, ltb};
 ghost use lib.ListN.{length, drop};
 ghost use Rattle.std.specs.Options.{Cases};
+ghost use Rattle.words.specs.Format.{isNil};
 ghost use Rattle.words.specs.Words.{firstWord, field as fieldOf};
 
 // The next word and what follows it; None where fewer than four bytes are left.
@@ -37,4 +39,11 @@ pub fn fits(mask: u32, count: u32) -> bool
     ensures { λ r. ⌜ r ≡ ltb mask (2 ^ count) ⌝ }
 {
     count >= 32 || mask >> count == 0
+}
+
+// Whether an end word has the right number, that of the words before it, and nothing follows.
+pub fn is_last(word: u32, place: usize, rest: &[u8]) -> bool
+    ensures { λ r. ⌜ r ≡ (eqb (word % 2 ^ 28) place && isNil (now (rest .entry))) ⌝ }
+{
+    word as usize % (1 << 28) == place && rest.is_empty()
 }

@@ -1,11 +1,9 @@
 ghost use mathlib.Core.Path.{_≡_};
-ghost use mathlib.Core.List.{[], _∷_, _++_};
-ghost use Prim.Native.Nat.{_<_};
-ghost use lib.ListN.{length, take};
-ghost use Rattle.std.specs.Results.{Cases};
-ghost use Rattle.words.specs.Format.{wrong, more, onto};
-ghost use Rattle.wishlayout.specs.Layout.{noding, wishing, readWish};
-ghost use Rattle.wishlayout.specs.OneWord.{nodeOf, wishOf};
+ghost use mathlib.Core.Bool.{true};
+ghost use mathlib.Core.List.{[]};
+ghost use lib.ListN.{take};
+ghost use Rattle.std.specs.declared.result.Result.the-variants.{Ok};
+ghost use Rattle.wishlayout.specs.Layout.{noding};
 ghost use Rattle.wishbook.specs.Gathering.{draftOf};
 ghost use Rattle.wishbook.specs.Steps.{NodeAdded, WishAdded, Stepped};
 use super::Gathered;
@@ -69,7 +67,8 @@ impl Gathered {
 
     // One word more: true at the end word.
     pub fn step(&mut self, word: u32) -> Result<bool, Refusal>
-        ensures { λ r. ⌜ Stepped (draftOf (now (self .entry))) word (draftOf (now (self .exit))) r ⌝ }
+        ensures answer { λ r. ⌜ Stepped (draftOf (now (self .entry))) word (draftOf (now (self .exit))) r ⌝ }
+        ensures ended { λ r. ⌜ (r ≡ Ok true → now (self .exit) .wished ≡ 0 → ⊥) ⌝ }
     {
         let kind = word >> 28;
         if self.wished == 0 {

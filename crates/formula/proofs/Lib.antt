@@ -1,0 +1,10 @@
+pub mod Examples
+pub mod Trees
+pub mod Apart
+pub mod KeptTrees
+pub mod Faithful
+pub mod Marks
+pub mod Chosen
+pub mod Passes
+pub mod Puts
+pub mod Tables
