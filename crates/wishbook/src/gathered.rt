@@ -6,6 +6,7 @@ use formula::Node;
 use wishlayout::Wish;
 
 mod steps;
+mod whole;
 
 // The first `count` node words and the first `wished` wishes.
 #[derive(Clone, Copy)]
