@@ -8,3 +8,4 @@ pub mod Chosen
 pub mod Passes
 pub mod Puts
 pub mod Tables
+pub mod Padded

@@ -1,0 +1,5 @@
+pub mod Valid
+pub mod Lawful
+pub mod Tables
+pub mod Validity
+pub mod Storing

@@ -1,0 +1,5 @@
+pub mod Models
+pub mod Tables
+pub mod Contents
+pub mod Storing
+pub mod Reading
