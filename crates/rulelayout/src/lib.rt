@@ -1,14 +1,10 @@
 // Rule books: switches, and actions whose outcomes set and clear them. This crate says what such a book is and how it is
 // written, and tests one word at a time.
-ghost use mathlib.Core.Bool.{true};
 ghost use mathlib.Core.Path.{_≡_};
-ghost use Prim.Native.Nat.{_^_};
-ghost use lib.Dec.{ltb};
-ghost use Rattle.words.specs.Format.{Faithful};
-ghost use Rattle.rulelayout.specs.Rule.{valid};
-ghost use Rattle.rulelayout.specs.Layout.{headOf, masksOf, ruleFormat, ruleWords};
+ghost use Rattle.rulelayout.specs.Layout.{headOf, masksOf};
 use refusal::Refusal;
 use words::field;
+use words::fits;
 
 // One outcome of an action: the switches that it sets and clears, and its weight in eighths.
 #[derive(Clone, Copy)]
@@ -35,26 +31,8 @@ pub struct Masks {
     pub count: u8,
 }
 
-// Whether every switch of the mask is one of the first `switches`.
-fn has_only(mask: u32, switches: u32) -> bool
-    ensures { λ r. ⌜ r ≡ ltb mask (2 ^ switches) ⌝ }
-{
-    if switches >= 32 {
-        true
-    } else {
-        mask < 1 << switches
-    }
-}
-
-// The head of a book, or what is wrong with its word. The laws of the whole format stand here too.
+// The head of a book, or what is wrong with its word.
 pub fn read_head(word: u32) -> Result<RuleHead, Refusal>
-    ensures reads { λ r. ⌜ r ≡ headOf word ⌝ }
-    ensures faithful { λ _. ⌜ Faithful ruleFormat (λ b. valid b ≡ true) ruleWords ⌝ }
-{
-    head_fields(word)
-}
-
-fn head_fields(word: u32) -> Result<RuleHead, Refusal>
     ensures { λ r. ⌜ r ≡ headOf word ⌝ }
 {
     if word >> 28 != 6 {
@@ -66,7 +44,7 @@ fn head_fields(word: u32) -> Result<RuleHead, Refusal>
     let switches = field(word, 0, 4);
     let actions = field(word, 4, 4);
     let start = field(word, 8, 10);
-    if switches < 1 || switches > 10 || actions < 1 || actions > 8 || !has_only(start, switches) {
+    if switches < 1 || switches > 10 || actions < 1 || actions > 8 || !fits(start, switches) {
         return Err(Refusal::OutOfRange);
     }
     Ok(RuleHead {
@@ -90,7 +68,7 @@ pub fn read_masks(kind: u32, switches: u32, word: u32) -> Result<Masks, Refusal>
     let first = field(word, 0, 10);
     let second = field(word, 10, 10);
     let count = field(word, 20, 4);
-    if !has_only(first, switches) || !has_only(second, switches) || count < 1 || count > 8 {
+    if !fits(first, switches) || !fits(second, switches) || count < 1 || count > 8 {
         return Err(Refusal::OutOfRange);
     }
     if first & second != 0 {

@@ -5,7 +5,6 @@ use mathlib.Core.List.{List, [], _∷_, _++_, append-assoc, append-nil}
 use mathlib.Core.Path.{_≡_, refl, sym, ap, subst, _∙_}
 use mathlib.Core.Logic.{_⊎_, inl, inr}
 use Prim.Native.Nat.{ℕ, zero, suc, _+_, _*_, _^_, _<_, _≤_}
-use native.Mathlib.Nat.{zero-add}
 use native.Mathlib.Omega.{arith}
 use lib.Dec.{eqb, ltb, leb}
 use lib.ListN.{length, length-append}
@@ -15,6 +14,7 @@ use Rattle.std.proofs.shelf.Lists.{length-push}
 use Rattle.std.proofs.shelf.Tests.{and-parts, and-from, eqb-true, eq-eqb, ne-eqb, ltb-true, lt-ltb, leb-true, le-leb, cases-bool, not-true}
 use Rattle.formula.specs.declared.Node.{Node}
 use Rattle.formula.specs.Formulas.{operandsBelow, earlierFrom, earlier}
+use Rattle.formula.proofs.Trees.{earlier-push}
 use Rattle.refusal.specs.declared.Refusal.{Refusal}
 use Rattle.refusal.specs.declared.Refusal.the-variants.{WrongKind, TooManyItems}
 use Rattle.words.specs.Words.{kind, endWord}
@@ -42,15 +42,6 @@ node-words-push (x ∷ ns) n = ap (λ l. nodeWord x ∷ l) (node-words-push ns n
 amount-words-push : (ws : List Wish) (w : Wish) → amountWords (ws ++ (w ∷ [])) ≡ amountWords ws ++ (wishWord w ∷ [])
 amount-words-push [] w = refl
 amount-words-push (x ∷ ws) w = ap (λ l. wishWord x ∷ l) (amount-words-push ws w)
-
-earlier-push : (i : ℕ) (ns : List Node) (n : Node) → earlierFrom i ns ≡ true → operandsBelow (i + length ns) n ≡ true → earlierFrom i (ns ++ (n ∷ [])) ≡ true
-earlier-push i [] n e o =
-    let same : i + 0 ≡ i = omega arith in
-    and-from (operandsBelow i n) true (ap (λ k. operandsBelow k n) (sym same) ∙ o) refl
-earlier-push i (x ∷ ns) n e o =
-    let parts = and-parts (operandsBelow i x) (earlierFrom (suc i) ns) e in
-    let same : suc i + length ns ≡ i + suc (length ns) = omega arith in
-    and-from (operandsBelow i x) (earlierFrom (suc i) (ns ++ (n ∷ []))) (parts .0) (earlier-push (suc i) ns n (parts .1) (ap (λ k. operandsBelow k n) same ∙ o))
 
 same-more : {x y : Draft} → more x ≡ more y → x ≡ y
 same-more e = cc
@@ -89,7 +80,7 @@ word-kept (noding ns) t w g e =
           let told = node-reads (length ns) w (said .0) (said .1 .0) in
           let long = length-push ns (said .0) in
           subst (Next (noding ns) w) (same-more (said .1 .1)) (
-            (earlier-push 0 ns (said .0) (g .0) (ap (λ k. operandsBelow k (said .0)) (zero-add (length ns)) ∙ told .1 .0), (all-push goodLabel ns (said .0) (g .1 .0) (told .1 .1), omega (arith, ltb-true (length ns) 128 (room .0)))),
+            (earlier-push ns (said .0) (g .0) (told .1 .0), (all-push goodLabel ns (said .0) (g .1 .0) (told .1 .1), omega (arith, ltb-true (length ns) 128 (room .0)))),
             node-words-push ns (said .0) ∙ ap (λ v. nodeWords ns ++ (v ∷ [])) (sym (told .0)),
           )
     ]
