@@ -1,0 +1,1 @@
+// A wish book laid on any model.
