@@ -1,1 +1,2 @@
 pub mod Recalling
+pub mod Verdicts

@@ -1,1 +1,4 @@
 // A wish book laid on any model.
+fn nothing() -> u8 {
+    0
+}
