@@ -1,0 +1,4 @@
+// Histories of models, as definitions and laws.
+fn nothing() -> u8 {
+    0
+}
