@@ -1,2 +1,3 @@
 pub mod Recalling
 pub mod Verdicts
+pub mod Unfolds

@@ -167,10 +167,10 @@ module _ (ns : List Node) (roots : List ℕ) (ok : earlier ns ≡ true) (τ : Tr
   verdicts-right n r recalls = verdicts-from-right n r recalls [] ns [] refl refl (λ i l u. absurd (omega arith))
 
   -- what the truth lines say of all nodes at position n
-  abbrev told : ℕ → List Bool
+  abbrev pub told : ℕ → List Bool
   told n = map (λ f. holds f τ n) (formulas ns)
 
-  told-at : (n i : ℕ) → i < length ns → getD (told n) i false ≡ true-at n i
+  pub told-at : (n i : ℕ) → i < length ns → getD (told n) i false ≡ true-at n i
   told-at n i l = getD-map (λ f. holds f τ n) (formulas ns) i truth false (omega (arith, length-formulas ns))
 
   -- the memory after the positions below n
