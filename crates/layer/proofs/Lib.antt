@@ -1,3 +1,4 @@
 pub mod Recalling
 pub mod Verdicts
 pub mod Unfolds
+pub mod Bits

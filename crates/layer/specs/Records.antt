@@ -1,14 +1,17 @@
 -- What a layer means along a history, by the truth lines alone: where it stands, what it shows and what it earns. The trace of a
 -- history has at each position what the model below shows there.
-use mathlib.Core.Bool.{Bool, true}
+use mathlib.Core.Bool.{Bool, true, not}
 use mathlib.Core.List.{List, map}
 use mathlib.Core.Path.{_≡_}
-use Prim.Native.Nat.{ℕ, zero, suc, _+_, _-_, _*_, _^_, _≤_}
+use Prim.Native.Nat.{ℕ, zero, suc, _+_, _-_, _*_, _^_, _<_, _≤_}
 use lib.IntN.{ℤ}
-use lib.ListN.{length, take}
+use lib.ListN.{length, getD, take}
+use Rattle.formula.specs.declared.Item.{Item}
+use Rattle.formula.specs.declared.Item.the-variants.{Held, Failed}
 use Rattle.formula.specs.declared.Node.{Node}
-use Rattle.formula.specs.Formulas.{formulas}
-use Rattle.truth.specs.Truth.{Trace, holds}
+use Rattle.formula.specs.Formulas.{truth, formulas}
+use Rattle.truth.specs.Truth.{Trace, labelled, before, holds}
+use Rattle.wishlayout.specs.declared.Wish.{Wish}
 use Rattle.wishbook.specs.Book.{Book, sound, itemsOver}
 use Rattle.layer.specs.Judging.{memoryOf, wishBits, earned}
 
@@ -43,3 +46,18 @@ pub record SoundBook (b : Book) : Type 0 where
   pub names : sound (b .nodes) (b .wishes) ≡ true
   pub remembers : b .items ≡ itemsOver (b .nodes) (b .wishes)
   pub few : length (b .items) ≤ 16
+
+-- what an item tells of a position: that its node held there, or that it failed
+abbrev pub tells : List Node → Trace → Item → ℕ → Bool
+tells ns τ (Held i) j = holds (getD (formulas ns) i truth) τ j
+tells ns τ (Failed i) j = not (holds (getD (formulas ns) i truth) τ j)
+
+-- each memory bit tells the truth of one position earlier, and is 0 at the start
+abbrev pub MemoryTells : Type 0
+MemoryTells = (b : Book) → SoundBook b → (τ : Trace) (n k : ℕ) → k < length (b .items) → labelled (memoryAt b τ n) k ≡ before n (tells (b .nodes) τ (getD (b .items) k (Held 0)))
+
+-- each wish has a bit above the labels below, set just where it holds at the end of the history
+abbrev pub WishesShow : Type 0
+WishesShow =
+    (b : Book) → SoundBook b → (labels : ℕ) (mask : List ℕ → ℕ) (h : List ℕ) (k : ℕ) (d : Wish) → mask h < 2 ^ labels → k < length (b .wishes)
+    → labelled (maskOver labels mask b h) (labels + k) ≡ holds (getD (formulas (b .nodes)) (getD (b .wishes) k d .node) truth) (traceOf mask h) (endOf h)

@@ -1,0 +1,4 @@
+// Piles of wish layers on ground models.
+fn nothing() -> u8 {
+    0
+}
