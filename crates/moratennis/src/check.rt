@@ -30,7 +30,10 @@ fn sizes<M: Numbered>(rt: &LibcRuntime, kind: &str, model: &M) -> Result<(), Any
     let actions = sizes.actions;
     let bound = sizes.bound;
     let start = model.start();
-    println!(rt, "{kind} book: {states} states, {labels} labels, {actions} actions, rewards within {bound}, start {start}")?;
+    println!(
+        rt,
+        "{kind} book: {states} states, {labels} labels, {actions} actions, rewards within {bound}, start {start}"
+    )?;
     Ok(())
 }
 
@@ -43,7 +46,7 @@ fn site(rt: &LibcRuntime, bytes: &[u8]) -> Result<(), AnyError> {
 
 fn rule(rt: &LibcRuntime, bytes: &[u8]) -> Result<(), AnyError> {
     match read_rule(bytes) {
-        Ok(_book) => Ok(()),
+        Ok(book) => sizes(rt, "rule", &book),
         Err(fault) => refused(rt, fault),
     }
 }
@@ -54,7 +57,10 @@ fn wish(rt: &LibcRuntime, bytes: &[u8]) -> Result<(), AnyError> {
             let nodes = book.nodes().len();
             let items = book.items().len();
             let wishes = book.wishes().len();
-            println!(rt, "wish book: {nodes} nodes, {items} memory items, {wishes} wishes")?;
+            println!(
+                rt,
+                "wish book: {nodes} nodes, {items} memory items, {wishes} wishes"
+            )?;
             show::wishes(rt, &book)
         }
         Err(fault) => refused(rt, fault),

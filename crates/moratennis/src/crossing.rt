@@ -9,11 +9,34 @@ use std::error::AnyError;
 use wishbook::read_wish;
 
 const SITE: [u32; 18] = [
-    0x10084003, 0x20000000, 0x300007D0, 0x20000001, 0x300017D0, 0x20000003, 0x300027D0, 0x40010000, 0x50004000, 0x50004001, 0x40008001, 0x50008001, 0x40011001, 0x50006002, 0x50002001, 0x40008002,
-    0x50008000, 0xF0000011,
+    0x10084003,
+    0x20000000,
+    0x300007D0,
+    0x20000001,
+    0x300017D0,
+    0x20000003,
+    0x300027D0,
+    0x40010000,
+    0x50004000,
+    0x50004001,
+    0x40008001,
+    0x50008001,
+    0x40011001,
+    0x50006002,
+    0x50002001,
+    0x40008002,
+    0x50008000,
+    0xF0000011,
 ];
 
-const WISH: [u32; 6] = [0x10000001, 0x10000000, 0x50000001, 0x30000200, 0xA0010903, 0xF0000005];
+const WISH: [u32; 6] = [
+    0x10000001,
+    0x10000000,
+    0x50000001,
+    0x30000200,
+    0xA0010903,
+    0xF0000005,
+];
 
 // The bytes of words, lowest first.
 fn bytes_of(heap: Global, words: &[u32]) -> Result<Vec<u8>, AllocError> {
@@ -26,7 +49,10 @@ fn bytes_of(heap: Global, words: &[u32]) -> Result<Vec<u8>, AllocError> {
 
 // Reads both books and prints what they hold.
 pub fn run(rt: &LibcRuntime) -> Result<(), AnyError> {
-    println!(rt, "the built-in crossing: label p0 is \"train\", label p1 is \"swept\"")?;
+    println!(
+        rt,
+        "the built-in crossing: label p0 is \"train\", label p1 is \"swept\""
+    )?;
     site(rt)?;
     wish(rt)
 }

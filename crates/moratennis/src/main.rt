@@ -14,13 +14,21 @@ fn main(rt: LibcRuntime) -> Result<(), AnyError> {
     }
     match words.as_slice() {
         [] => rt.report(crossing::run(&rt)),
-        [command, kind, file] if command.as_str() == "check" => check::run(&rt, kind.as_str(), file.as_str()),
+        [command, kind, file] if command.as_str() == "check" => check::run(
+            &rt,
+            kind.as_str(),
+            file.as_str(),
+        ),
         _ => usage(&rt),
     }
 }
 
 fn usage(rt: &LibcRuntime) -> Result<(), AnyError> {
-    rt.eprintln("usage: moratennis                             the built-in crossing, start to end")?;
-    rt.eprintln("       moratennis check site|rule|wish FILE   what a book holds, or why it is refused")?;
+    rt.eprintln(
+        "usage: moratennis                             the built-in crossing, start to end",
+    )?;
+    rt.eprintln(
+        "       moratennis check site|rule|wish FILE   what a book holds, or why it is refused",
+    )?;
     Err("wrong command line".into())
 }

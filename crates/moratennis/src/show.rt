@@ -24,7 +24,13 @@ pub fn labels(heap: Global, mask: u32) -> Result<String, AllocError> {
 }
 
 // The formula of node `i`, which is below `below`.
-pub fn formula(heap: Global, nodes: &[Node], below: usize, i: u8, text: &mut String) -> Result<(), AllocError> {
+pub fn formula(
+    heap: Global,
+    nodes: &[Node],
+    below: usize,
+    i: u8,
+    text: &mut String,
+) -> Result<(), AllocError> {
     let at = i as usize;
     if at >= below || at >= nodes.len() {
         return text.push_str("?");
