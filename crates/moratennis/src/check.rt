@@ -2,6 +2,7 @@
 use crate::crossing::refused;
 use crate::show;
 use model::Numbered;
+use rulebook::RuleBookNumbered;
 use rulebook::read_rule;
 use sitebook::SiteBookNumbered;
 use sitebook::read_site;
