@@ -1,5 +1,5 @@
 // Files made from rows of tables, and what the readers answer to them.
-use crate::number_and_place;
+use refusal::Fault;
 use rulebook::read_rule;
 use sitebook::read_site;
 use std::alloc::AllocError;
@@ -12,6 +12,11 @@ pub enum Reader {
     Site,
     Rule,
     Wish,
+}
+
+// The number and the place of a refusal; want of memory, which has no number, is 255.
+fn number_and_place(fault: Fault) -> (u8, usize) {
+    (fault.refusal.number().unwrap_or(255), fault.place)
 }
 
 // The number and the place of a refusal, or 0 and 0 where the book is accepted.
@@ -29,6 +34,9 @@ pub const ALL: usize = usize::MAX;
 
 // The first and the last unused bit of the word at a place.
 pub type UnusedBits = (usize, u32, u32);
+
+// The weights of eight outcomes; the answer.
+pub type Weighing = ([u32; 8], Answer);
 
 // The kinds that may come at a place.
 pub type MayCome = (usize, &'static [u32]);
@@ -132,6 +140,32 @@ pub fn endings(
             file.push(255)?;
         }
         check_eq(answer_to(heap, reader, file.as_slice()), expected).note(name)?;
+    }
+    Ok(())
+}
+
+// Eight outcomes of given weights, from a place on: the word at weight 0, what each next one adds, and the weight's lowest bit.
+pub fn weighings(
+    heap: Global,
+    reader: Reader,
+    parts: &[&[u32]],
+    layout: (usize, u32, u32, u32),
+    rows: &[Weighing],
+) -> Result<(), Fail> {
+    let base = joined(heap, parts)?;
+    let (at, first, step, low) = layout;
+    for row in rows {
+        let (weights, expected) = *row;
+        let mut put = Vec::new(heap);
+        let mut word = first;
+        for weight in weights {
+            put.push(word | weight.rotate_left(low))?;
+            word = word.wrapping_add(step);
+        }
+        let mut words = spliced(heap, base.as_slice(), at, 8, put.as_slice())?;
+        close(&mut words)?;
+        let got = answer_to_words(heap, reader, words.as_slice())?;
+        check_eq(got, expected).note(format_args!("weights {weights:?}"))?;
     }
     Ok(())
 }

@@ -3,21 +3,21 @@ use crate::files::*;
 use std::test::*;
 
 // Three switches, two actions at words 1 and 4, of which the second has needs.
-const BASE: [&[u32]; 3] = [
+static BASE: [&[u32]; 3] = [
     &[0x60000523],
     &[0x70200000, 0x80500801, 0x80300000],
     &[0x70101001, 0x80800404],
 ];
 
 // Ten switches, and an action at 3 that needs the last.
-const TEN: [&[u32]; 3] = [
+static TEN: [&[u32]; 3] = [
     &[0x6000002A],
     &[0x70100000, 0x80800000],
     &[0x70100200, 0x80800000],
 ];
 
 // Eight actions of one outcome.
-const EIGHT: [&[u32]; 9] = [
+static EIGHT: [&[u32]; 9] = [
     &[0x60000083],
     &[0x70100000, 0x80800000],
     &[0x70100000, 0x80800000],
@@ -30,14 +30,14 @@ const EIGHT: [&[u32]; 9] = [
 ];
 
 // One action of eight outcomes, from 2 to 9.
-const MANY: [&[u32]; 3] = [
+static MANY: [&[u32]; 3] = [
     &[0x60000013],
     &[0x70800000, 0x80100000, 0x80100000, 0x80100000, 0x80100000],
     &[0x80100000, 0x80100000, 0x80100000, 0x80100000],
 ];
 
 // The head.
-const HEADS: [Edit; 26] = [
+static HEADS: [Edit; 26] = [
     ("no switch", (0, 1, &[0x60000020]), (4, 0)),
     (
         "one switch, and an outcome clears switch 1",
@@ -99,7 +99,7 @@ const HEADS: [Edit; 26] = [
 ];
 
 // Actions: needs and outcomes.
-const ACTIONS: [Edit; 21] = [
+static ACTIONS: [Edit; 21] = [
     ("switch 2 of 3 on", (4, 1, &[0x70100404]), (0, 0)),
     ("switch 3 of 3 on", (4, 1, &[0x70101008]), (4, 4)),
     ("switch 9 of 3 on", (4, 1, &[0x70100200]), (4, 4)),
@@ -156,7 +156,7 @@ const ACTIONS: [Edit; 21] = [
 ];
 
 // Outcomes: masks, weight, total.
-const OUTCOMES: [Edit; 30] = [
+static OUTCOMES: [Edit; 30] = [
     ("switch 2 of 3 set", (2, 1, &[0x80500004]), (0, 0)),
     ("switch 3 of 3 set", (2, 1, &[0x80500008]), (4, 2)),
     ("switch 9 of 3 set", (2, 1, &[0x80500200]), (4, 2)),
@@ -234,7 +234,7 @@ const OUTCOMES: [Edit; 30] = [
 ];
 
 // Ten switches, and needs of action 0.
-const NEEDS: [Edit; 22] = [
+static NEEDS: [Edit; 22] = [
     ("switch 9 of 10 on", (0, 0, &[]), (0, 0)),
     ("switch 9 of 10 off", (3, 1, &[0x70180000]), (0, 0)),
     ("all switches on", (3, 1, &[0x701003FF]), (0, 0)),
@@ -292,7 +292,7 @@ const NEEDS: [Edit; 22] = [
 ];
 
 // Eight actions.
-const FULL: [Edit; 9] = [
+static FULL: [Edit; 9] = [
     ("8 actions", (0, 0, &[]), (0, 0)),
     (
         "a ninth action",
@@ -321,7 +321,7 @@ const FULL: [Edit; 9] = [
 ];
 
 // Eight outcomes.
-const WIDTHS: [Edit; 11] = [
+static WIDTHS: [Edit; 7] = [
     ("8 outcomes", (0, 0, &[]), (0, 0)),
     ("a ninth outcome", (10, 0, &[0x80100000]), (2, 10)),
     ("7 of 8 outcomes", (9, ALL, &[]), (2, 9)),
@@ -337,99 +337,14 @@ const WIDTHS: [Edit; 11] = [
         (6, 9),
     ),
     (
-        "a total of 15",
-        (
-            2,
-            8,
-            &[
-                0x80800000,
-                0x80100000,
-                0x80100000,
-                0x80100000,
-                0x80100000,
-                0x80100000,
-                0x80100000,
-                0x80100000,
-            ],
-        ),
-        (6, 9),
-    ),
-    (
-        "a total of 24",
-        (
-            2,
-            8,
-            &[
-                0x80300000,
-                0x80300000,
-                0x80300000,
-                0x80300000,
-                0x80300000,
-                0x80300000,
-                0x80300000,
-                0x80300000,
-            ],
-        ),
-        (6, 9),
-    ),
-    (
-        "a total of 40",
-        (
-            2,
-            8,
-            &[
-                0x80500000,
-                0x80500000,
-                0x80500000,
-                0x80500000,
-                0x80500000,
-                0x80500000,
-                0x80500000,
-                0x80500000,
-            ],
-        ),
-        (6, 9),
-    ),
-    (
-        "a total of 64",
-        (
-            2,
-            8,
-            &[
-                0x80800000,
-                0x80800000,
-                0x80800000,
-                0x80800000,
-                0x80800000,
-                0x80800000,
-                0x80800000,
-                0x80800000,
-            ],
-        ),
-        (6, 9),
-    ),
-    (
-        "a total above 8, and switch 0 set and cleared",
-        (
-            2,
-            8,
-            &[
-                0x80800000,
-                0x80800000,
-                0x80800000,
-                0x80800000,
-                0x80800000,
-                0x80800000,
-                0x80800000,
-                0x80100401,
-            ],
-        ),
+        "a total above 8, and a switch twice",
+        (8, 2, &[0x80800000, 0x80100401]),
         (9, 9),
     ),
 ];
 
 // Ends of files.
-const ENDINGS: [Ending; 23] = [
+static ENDINGS: [Ending; 23] = [
     ("the number before", (6, &[0xF0000005], 0), (5, 6)),
     ("the right number", (6, &[0xF0000006], 0), (0, 0)),
     ("the number after", (6, &[0xF0000007], 0), (5, 6)),
@@ -495,8 +410,23 @@ const ENDINGS: [Ending; 23] = [
     ("a word of ones for the end", (6, &[], 4), (5, 6)),
 ];
 
+// Weights of the eight outcomes.
+static WEIGHTS: [Weighing; 11] = [
+    ([1, 1, 1, 1, 1, 1, 1, 1], (0, 0)),
+    ([1, 1, 1, 1, 1, 1, 1, 2], (6, 9)),
+    ([2, 1, 1, 1, 1, 1, 1, 1], (6, 9)),
+    ([8, 1, 1, 1, 1, 1, 1, 1], (6, 9)),
+    ([1, 1, 1, 1, 1, 1, 1, 8], (6, 9)),
+    ([3, 3, 3, 3, 3, 3, 3, 3], (6, 9)),
+    ([5, 5, 5, 5, 5, 5, 5, 5], (6, 9)),
+    ([7, 7, 7, 7, 7, 7, 7, 7], (6, 9)),
+    ([8, 8, 8, 8, 8, 8, 8, 8], (6, 9)),
+    ([8, 8, 8, 8, 8, 8, 8, 9], (4, 9)),
+    ([1, 1, 1, 1, 1, 1, 1, 0], (4, 9)),
+];
+
 // Every bit that no field has, for each kind of word.
-const UNUSED: [UnusedBits; 6] = [
+static UNUSED: [UnusedBits; 6] = [
     (0, 18, 27),
     (1, 24, 27),
     (2, 24, 27),
@@ -506,7 +436,7 @@ const UNUSED: [UnusedBits; 6] = [
 ];
 
 // Every kind that may not come, for each kind of place.
-const KINDS: [MayCome; 7] = [
+static KINDS: [MayCome; 7] = [
     (0, &[6]),
     (1, &[7]),
     (2, &[8]),
@@ -524,7 +454,8 @@ fn fields(rt: LibcRuntime) -> Result<(), Fail> {
     edits(heap, Reader::Rule, &BASE, &OUTCOMES)?;
     edits(heap, Reader::Rule, &TEN, &NEEDS)?;
     edits(heap, Reader::Rule, &EIGHT, &FULL)?;
-    edits(heap, Reader::Rule, &MANY, &WIDTHS)
+    edits(heap, Reader::Rule, &MANY, &WIDTHS)?;
+    weighings(heap, Reader::Rule, &MANY, (2, 0x80000000, 0, 20), &WEIGHTS)
 }
 
 #[test]

@@ -5,7 +5,7 @@ use std::alloc::Global;
 use std::test::*;
 
 // The built-in crossing: three states, two labels, two actions. Its entries begin at words 7, 10, 12 and 15.
-const CROSSING: [&[u32]; 8] = [
+static CROSSING: [&[u32]; 8] = [
     &[0x10084003],
     &[0x20000000, 0x300007D0],
     &[0x20000001, 0x300017D0],
@@ -17,14 +17,22 @@ const CROSSING: [&[u32]; 8] = [
 ];
 
 // One state, no label, one action.
-const ONE: [&[u32]; 3] = [
+static ONE: [&[u32]; 3] = [
     &[0x10040001],
     &[0x20000000, 0x300007D0],
     &[0x40008000, 0x50008000],
 ];
 
+// Eight actions, of which the one state offers the first and the last.
+static ACTIONS: [&[u32]; 4] = [
+    &[0x10200001],
+    &[0x20000000, 0x300007D0],
+    &[0x40008000, 0x50008000],
+    &[0x4000F000, 0x50008000],
+];
+
 // Eight states, of which the first leads to each with weight 1: an entry at 17, outcomes from 18 to 25.
-const WIDE: [&[u32]; 18] = [
+static WIDE: [&[u32]; 18] = [
     &[0x10040008],
     &[0x20000000, 0x300007D0],
     &[0x20000000, 0x300007D0],
@@ -46,7 +54,7 @@ const WIDE: [&[u32]; 18] = [
 ];
 
 // The head.
-const HEADS: [Edit; 20] = [
+static HEADS: [Edit; 20] = [
     ("no state", (0, 1, &[0x10084000]), (4, 0)),
     (
         "4,096 states, of which 3 follow",
@@ -90,7 +98,7 @@ const HEADS: [Edit; 20] = [
 ];
 
 // Masks and rewards.
-const STATES: [Edit; 21] = [
+static STATES: [Edit; 21] = [
     ("label 1 of 2", (1, 1, &[0x20000002]), (0, 0)),
     ("label 2 of 2", (1, 1, &[0x20000004]), (4, 1)),
     ("label 23 of 2", (1, 1, &[0x20800000]), (4, 1)),
@@ -155,7 +163,7 @@ const STATES: [Edit; 21] = [
 ];
 
 // Entries: state, action, outcomes, order.
-const ENTRIES: [Edit; 23] = [
+static ENTRIES: [Edit; 23] = [
     ("state 2 of 3", (15, 1, &[0x40008002]), (0, 0)),
     ("state 3 of 3", (15, 1, &[0x40008003]), (4, 15)),
     ("state 4095", (15, 1, &[0x40008FFF]), (4, 15)),
@@ -252,7 +260,7 @@ const ENTRIES: [Edit; 23] = [
 ];
 
 // Outcomes: target, weight, total, order.
-const OUTCOMES: [Edit; 27] = [
+static OUTCOMES: [Edit; 27] = [
     ("target 2 of 3", (9, 1, &[0x50004002]), (0, 0)),
     ("target 3 of 3", (9, 1, &[0x50004003]), (4, 9)),
     ("target 4095", (9, 1, &[0x50004FFF]), (4, 9)),
@@ -339,7 +347,7 @@ const OUTCOMES: [Edit; 27] = [
 ];
 
 // Eight outcomes.
-const WIDTHS: [Edit; 16] = [
+static WIDTHS: [Edit; 12] = [
     ("8 outcomes", (0, 0, &[]), (0, 0)),
     ("9 outcomes", (17, 1, &[0x40048000]), (4, 17)),
     ("a ninth outcome", (26, 0, &[0x50001000]), (2, 26)),
@@ -372,99 +380,14 @@ const WIDTHS: [Edit; 16] = [
         (6, 25),
     ),
     (
-        "a total of 15",
-        (
-            18,
-            8,
-            &[
-                0x50008000,
-                0x50001001,
-                0x50001002,
-                0x50001003,
-                0x50001004,
-                0x50001005,
-                0x50001006,
-                0x50001007,
-            ],
-        ),
-        (6, 25),
-    ),
-    (
-        "a total of 24",
-        (
-            18,
-            8,
-            &[
-                0x50003000,
-                0x50003001,
-                0x50003002,
-                0x50003003,
-                0x50003004,
-                0x50003005,
-                0x50003006,
-                0x50003007,
-            ],
-        ),
-        (6, 25),
-    ),
-    (
-        "a total of 40",
-        (
-            18,
-            8,
-            &[
-                0x50005000,
-                0x50005001,
-                0x50005002,
-                0x50005003,
-                0x50005004,
-                0x50005005,
-                0x50005006,
-                0x50005007,
-            ],
-        ),
-        (6, 25),
-    ),
-    (
-        "a total of 64",
-        (
-            18,
-            8,
-            &[
-                0x50008000,
-                0x50008001,
-                0x50008002,
-                0x50008003,
-                0x50008004,
-                0x50008005,
-                0x50008006,
-                0x50008007,
-            ],
-        ),
-        (6, 25),
-    ),
-    (
         "a total above 8, and a target again",
-        (
-            18,
-            8,
-            &[
-                0x50008000,
-                0x50008001,
-                0x50008002,
-                0x50008003,
-                0x50008004,
-                0x50008005,
-                0x50008006,
-                0x50001000,
-            ],
-        ),
+        (24, 2, &[0x50008006, 0x50001000]),
         (7, 25),
     ),
 ];
 
 // One state.
-const SMALL: [Edit; 13] = [
+static SMALL: [Edit; 10] = [
     ("one state, no label, one action", (0, 0, &[]), (0, 0)),
     ("no state", (0, 1, &[0x10040000]), (4, 0)),
     ("label 0 of none", (1, 1, &[0x20000001]), (4, 1)),
@@ -472,64 +395,20 @@ const SMALL: [Edit; 13] = [
     ("label 1 of one", (0, 2, &[0x10042001, 0x20000002]), (4, 1)),
     ("state 1 of one", (3, 1, &[0x40008001]), (4, 3)),
     ("action 1 of one", (5, 0, &[0x40009000, 0x50008000]), (4, 5)),
-    (
-        "action 6 of 7",
-        (
-            0,
-            ALL,
-            &[
-                0x101C0001,
-                0x20000000,
-                0x300007D0,
-                0x40008000,
-                0x50008000,
-                0x4000E000,
-                0x50008000,
-            ],
-        ),
-        (0, 0),
-    ),
-    (
-        "action 7 of 7",
-        (
-            0,
-            ALL,
-            &[
-                0x101C0001,
-                0x20000000,
-                0x300007D0,
-                0x40008000,
-                0x50008000,
-                0x4000F000,
-                0x50008000,
-            ],
-        ),
-        (4, 5),
-    ),
-    (
-        "action 7 of 8",
-        (
-            0,
-            ALL,
-            &[
-                0x10200001,
-                0x20000000,
-                0x300007D0,
-                0x40008000,
-                0x50008000,
-                0x4000F000,
-                0x50008000,
-            ],
-        ),
-        (0, 0),
-    ),
     ("target 1 of one", (4, 1, &[0x50008001]), (4, 4)),
     ("all bits of the first word", (0, 1, &[0xFFFFFFFF]), (2, 0)),
     ("no bit of the first word", (0, 1, &[0x00000000]), (2, 0)),
 ];
 
+// The last action.
+static LAST_ACTION: [Edit; 3] = [
+    ("action 7 of 8", (0, 0, &[]), (0, 0)),
+    ("action 7 of 7", (0, 1, &[0x101C0001]), (4, 5)),
+    ("action 0 again", (5, 1, &[0x40008000]), (7, 5)),
+];
+
 // Where an end may come, and waits.
-const WHOLES: [Edit; 13] = [
+static WHOLES: [Edit; 13] = [
     ("no entry", (7, ALL, &[]), (8, 7)),
     ("an entry of state 0 alone", (10, ALL, &[]), (8, 10)),
     ("no entry of state 2", (15, 2, &[]), (8, 15)),
@@ -558,7 +437,7 @@ const WHOLES: [Edit; 13] = [
 ];
 
 // Ends of files.
-const ENDINGS: [Ending; 26] = [
+static ENDINGS: [Ending; 26] = [
     ("the number before", (17, &[0xF0000010], 0), (5, 17)),
     ("the right number", (17, &[0xF0000011], 0), (0, 0)),
     ("the number after", (17, &[0xF0000012], 0), (5, 17)),
@@ -635,8 +514,23 @@ const ENDINGS: [Ending; 26] = [
     ("a word of ones for the end", (17, &[], 4), (5, 17)),
 ];
 
+// Weights of the eight outcomes.
+static WEIGHTS: [Weighing; 11] = [
+    ([1, 1, 1, 1, 1, 1, 1, 1], (0, 0)),
+    ([1, 1, 1, 1, 1, 1, 1, 2], (6, 25)),
+    ([2, 1, 1, 1, 1, 1, 1, 1], (6, 25)),
+    ([8, 1, 1, 1, 1, 1, 1, 1], (6, 25)),
+    ([1, 1, 1, 1, 1, 1, 1, 8], (6, 25)),
+    ([3, 3, 3, 3, 3, 3, 3, 3], (6, 25)),
+    ([5, 5, 5, 5, 5, 5, 5, 5], (6, 25)),
+    ([7, 7, 7, 7, 7, 7, 7, 7], (6, 25)),
+    ([8, 8, 8, 8, 8, 8, 8, 8], (6, 25)),
+    ([8, 8, 8, 8, 8, 8, 8, 9], (4, 25)),
+    ([1, 1, 1, 1, 1, 1, 1, 0], (4, 25)),
+];
+
 // Every bit that no field has, for each kind of word.
-const UNUSED: [UnusedBits; 10] = [
+static UNUSED: [UnusedBits; 10] = [
     (0, 22, 27),
     (1, 24, 27),
     (2, 24, 27),
@@ -650,7 +544,7 @@ const UNUSED: [UnusedBits; 10] = [
 ];
 
 // Every kind that may not come, for each kind of place.
-const KINDS: [MayCome; 11] = [
+static KINDS: [MayCome; 11] = [
     (0, &[1]),
     (1, &[2]),
     (2, &[3]),
@@ -668,7 +562,7 @@ const KINDS: [MayCome; 11] = [
 type Size = ((u32, u32, u32, u32), usize, Answer);
 
 // The largest book has 303,105 words before its end.
-const LARGE: [Size; 15] = [
+static LARGE: [Size; 15] = [
     ((1, 1, 1, 8), 0, (0, 0)),
     ((4095, 1, 1, 8), 0, (0, 0)),
     ((4096, 1, 1, 8), 0, (0, 0)),
@@ -720,7 +614,9 @@ fn fields(rt: LibcRuntime) -> Result<(), Fail> {
     edits(heap, Reader::Site, &CROSSING, &OUTCOMES)?;
     edits(heap, Reader::Site, &WIDE, &WIDTHS)?;
     edits(heap, Reader::Site, &ONE, &SMALL)?;
-    edits(heap, Reader::Site, &CROSSING, &WHOLES)
+    edits(heap, Reader::Site, &ACTIONS, &LAST_ACTION)?;
+    edits(heap, Reader::Site, &CROSSING, &WHOLES)?;
+    weighings(heap, Reader::Site, &WIDE, (18, 0x50000000, 1, 12), &WEIGHTS)
 }
 
 #[test]

@@ -5,7 +5,7 @@ use std::alloc::Global;
 use std::test::*;
 
 // Every kind of node, at words 0 to 9, and two rewards.
-const BASE: [&[u32]; 4] = [
+static BASE: [&[u32]; 4] = [
     &[0x10000001, 0x10000000, 0x20000000, 0x30000100],
     &[0x40000201, 0x50000001, 0x60000100, 0x70000002],
     &[0x80000003, 0x90000000],
@@ -13,7 +13,7 @@ const BASE: [&[u32]; 4] = [
 ];
 
 // A chain of 15 once over label 0, at words 2 to 16, and once over the two ands of labels 0 and 1; three rewards from 21.
-const TWO: [&[u32]; 7] = [
+static TWO: [&[u32]; 7] = [
     &[0x10000000, 0x10000001, 0x80000000, 0x80000002],
     &[0x80000003, 0x80000004, 0x80000005, 0x80000006],
     &[0x80000007, 0x80000008, 0x80000009, 0x8000000A],
@@ -23,8 +23,18 @@ const TWO: [&[u32]; 7] = [
     &[0xA000FF10, 0xA000FF13, 0xA000FF14],
 ];
 
+// A chain of 17 once, and a reward at 18.
+static SEVENTEEN: [&[u32]; 6] = [
+    &[0x10000000, 0x80000000, 0x80000001, 0x80000002],
+    &[0x80000003, 0x80000004, 0x80000005, 0x80000006],
+    &[0x80000007, 0x80000008, 0x80000009, 0x8000000A],
+    &[0x8000000B, 0x8000000C, 0x8000000D, 0x8000000E],
+    &[0x8000000F, 0x80000010],
+    &[0xA000FF11],
+];
+
 // Labels and operands.
-const NODES: [Edit; 30] = [
+static NODES: [Edit; 30] = [
     ("label 31", (0, 1, &[0x1000001F]), (0, 0)),
     ("label 32", (0, 1, &[0x10000020]), (3, 0)),
     ("not of word 0 in word 0", (0, 1, &[0x20000000]), (4, 0)),
@@ -86,7 +96,7 @@ const NODES: [Edit; 30] = [
 ];
 
 // Rewards, and what comes after them.
-const REWARDS: [Edit; 23] = [
+static REWARDS: [Edit; 23] = [
     ("node 9 of 10", (10, 1, &[0xA000FF09]), (0, 0)),
     ("node 10 of 10", (10, 1, &[0xA000FF0A]), (4, 10)),
     ("node 255", (10, 1, &[0xA000FFFF]), (4, 10)),
@@ -145,7 +155,7 @@ const REWARDS: [Edit; 23] = [
 ];
 
 // Items of nodes that are merged or at rest.
-const ITEMS: [Edit; 9] = [
+static ITEMS: [Edit; 9] = [
     ("a and b, and b and a: 17 items", (0, 0, &[]), (10, 24)),
     ("a and b twice: 16 items", (18, 1, &[0x30000100]), (0, 0)),
     (
@@ -210,7 +220,7 @@ const ITEMS: [Edit; 9] = [
 ];
 
 // Ends of files.
-const ENDINGS: [Ending; 22] = [
+static ENDINGS: [Ending; 17] = [
     ("the number before", (12, &[0xF000000B], 0), (5, 12)),
     ("the right number", (12, &[0xF000000C], 0), (0, 0)),
     ("the number after", (12, &[0xF000000D], 0), (5, 12)),
@@ -231,155 +241,6 @@ const ENDINGS: [Ending; 22] = [
         "a reward after the end",
         (12, &[0xF000000C, 0xA000FF00], 0),
         (5, 12),
-    ),
-    (
-        "17 items, and the right number",
-        (
-            0,
-            &[
-                0x10000000,
-                0x80000000,
-                0x80000001,
-                0x80000002,
-                0x80000003,
-                0x80000004,
-                0x80000005,
-                0x80000006,
-                0x80000007,
-                0x80000008,
-                0x80000009,
-                0x8000000A,
-                0x8000000B,
-                0x8000000C,
-                0x8000000D,
-                0x8000000E,
-                0x8000000F,
-                0x80000010,
-                0xA000FF11,
-                0xF0000013,
-            ],
-            0,
-        ),
-        (10, 19),
-    ),
-    (
-        "17 items, and the number before",
-        (
-            0,
-            &[
-                0x10000000,
-                0x80000000,
-                0x80000001,
-                0x80000002,
-                0x80000003,
-                0x80000004,
-                0x80000005,
-                0x80000006,
-                0x80000007,
-                0x80000008,
-                0x80000009,
-                0x8000000A,
-                0x8000000B,
-                0x8000000C,
-                0x8000000D,
-                0x8000000E,
-                0x8000000F,
-                0x80000010,
-                0xA000FF11,
-                0xF0000012,
-            ],
-            0,
-        ),
-        (5, 19),
-    ),
-    (
-        "17 items, and the number after",
-        (
-            0,
-            &[
-                0x10000000,
-                0x80000000,
-                0x80000001,
-                0x80000002,
-                0x80000003,
-                0x80000004,
-                0x80000005,
-                0x80000006,
-                0x80000007,
-                0x80000008,
-                0x80000009,
-                0x8000000A,
-                0x8000000B,
-                0x8000000C,
-                0x8000000D,
-                0x8000000E,
-                0x8000000F,
-                0x80000010,
-                0xA000FF11,
-                0xF0000014,
-            ],
-            0,
-        ),
-        (5, 19),
-    ),
-    (
-        "17 items, and a byte after the end",
-        (
-            0,
-            &[
-                0x10000000,
-                0x80000000,
-                0x80000001,
-                0x80000002,
-                0x80000003,
-                0x80000004,
-                0x80000005,
-                0x80000006,
-                0x80000007,
-                0x80000008,
-                0x80000009,
-                0x8000000A,
-                0x8000000B,
-                0x8000000C,
-                0x8000000D,
-                0x8000000E,
-                0x8000000F,
-                0x80000010,
-                0xA000FF11,
-                0xF0000013,
-            ],
-            1,
-        ),
-        (5, 19),
-    ),
-    (
-        "17 items, and no end",
-        (
-            0,
-            &[
-                0x10000000,
-                0x80000000,
-                0x80000001,
-                0x80000002,
-                0x80000003,
-                0x80000004,
-                0x80000005,
-                0x80000006,
-                0x80000007,
-                0x80000008,
-                0x80000009,
-                0x8000000A,
-                0x8000000B,
-                0x8000000C,
-                0x8000000D,
-                0x8000000E,
-                0x8000000F,
-                0x80000010,
-                0xA000FF11,
-            ],
-            0,
-        ),
-        (1, 19),
     ),
     (
         "a wrong number where no end may come",
@@ -403,8 +264,43 @@ const ENDINGS: [Ending; 22] = [
     ("a word of ones for the end", (12, &[], 4), (5, 12)),
 ];
 
+// Ends of a book of 16 or 17 items.
+static FULL_ENDINGS: [Ending; 7] = [
+    (
+        "17 items, and the right number",
+        (19, &[0xF0000013], 0),
+        (10, 19),
+    ),
+    (
+        "17 items, and the number before",
+        (19, &[0xF0000012], 0),
+        (5, 19),
+    ),
+    (
+        "17 items, and the number after",
+        (19, &[0xF0000014], 0),
+        (5, 19),
+    ),
+    (
+        "17 items, and a byte after",
+        (19, &[0xF0000013], 1),
+        (5, 19),
+    ),
+    ("17 items, and no end", (19, &[], 0), (1, 19)),
+    (
+        "16 items, and the right number",
+        (18, &[0xA000FF10, 0xF0000013], 0),
+        (0, 0),
+    ),
+    (
+        "16 items, and the number before",
+        (18, &[0xA000FF10, 0xF0000012], 0),
+        (5, 19),
+    ),
+];
+
 // Every bit that no field has, for each kind of word.
-const UNUSED: [UnusedBits; 11] = [
+static UNUSED: [UnusedBits; 11] = [
     (0, 5, 27),
     (2, 8, 27),
     (3, 16, 27),
@@ -419,7 +315,7 @@ const UNUSED: [UnusedBits; 11] = [
 ];
 
 // Every kind that may not come, for each kind of place.
-const KINDS: [MayCome; 7] = [
+static KINDS: [MayCome; 7] = [
     (0, &[1, 2, 3, 4, 5, 6, 7, 8, 9]),
     (1, &[1, 2, 3, 4, 5, 6, 7, 8, 9, 10]),
     (5, &[1, 2, 3, 4, 5, 6, 7, 8, 9, 10]),
@@ -433,7 +329,7 @@ const KINDS: [MayCome; 7] = [
 type Count = (usize, usize, u32, Answer);
 
 // 128 nodes and 16 rewards.
-const COUNTS: [Count; 21] = [
+static COUNTS: [Count; 21] = [
     (1, 1, 0xA000FF00, (0, 0)),
     (127, 1, 0xA000FF7E, (0, 0)),
     (128, 1, 0xA000FF7F, (0, 0)),
@@ -460,6 +356,7 @@ const COUNTS: [Count; 21] = [
 // A name; the two kinds of node of a chain over a label, by turns; how many there are and the reward's node; the answer.
 type Chain = (&'static str, (Step, Step), (u32, u32), Answer);
 
+// A node word whose operands are 0, and what it grows by where they are the next node.
 type Step = (u32, u32);
 
 const ONCE: Step = (0x80000000, 0x1);
@@ -477,7 +374,7 @@ const AND: Step = (0x30000000, 0x101);
 const OR: Step = (0x40000000, 0x101);
 
 // 16 items.
-const CHAINS: [Chain; 29] = [
+static CHAINS: [Chain; 29] = [
     ("once", (ONCE, ONCE), (16, 16), (0, 0)),
     ("once", (ONCE, ONCE), (17, 17), (10, 19)),
     (
@@ -577,6 +474,7 @@ fn bits_and_kinds(rt: LibcRuntime) -> Result<(), Fail> {
 fn ends(rt: LibcRuntime) -> Result<(), Fail> {
     let heap = rt.alloc();
     endings(heap, Reader::Wish, &BASE, &ENDINGS)?;
+    endings(heap, Reader::Wish, &SEVENTEEN, &FULL_ENDINGS)?;
     cuts(heap, Reader::Wish, &BASE)
 }
 
