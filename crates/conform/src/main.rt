@@ -1,8 +1,8 @@
 // Answers commands about books, one to a line: the protocol that outside cases are written in.
 ghost use Prim.Native.Nat.{_<_};
 ghost use Rattle.std.specs.Options.{Cases};
-use refusal::Fault;
 use model::SiteModel;
+use refusal::Fault;
 use rulebook::RuleBookSiteModel;
 use rulebook::read_rule;
 use sitebook::SiteBookSiteModel;
