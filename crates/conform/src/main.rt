@@ -1,8 +1,12 @@
 // Answers commands about books, one to a line: the protocol that outside cases are written in.
 ghost use Prim.Native.Nat.{_<_};
 ghost use Rattle.std.specs.Options.{Cases};
+use model::SiteModel;
 use refusal::Fault;
+use rulebook::RuleBookSiteModel;
 use rulebook::read_rule;
+use sitebook::SiteBookSiteModel;
+use sitebook::read_site;
 use std::alloc::AllocError;
 use std::alloc::Global;
 use std::error::AnyError;
@@ -33,6 +37,7 @@ fn answer(heap: Global, line: &str) -> Result<String, AllocError> {
         return String::from_str(heap, "unknown");
     };
     match command {
+        "site" => site(heap, bytes.as_slice()),
         "rule" => rule(heap, bytes.as_slice()),
         "wish" => wish(heap, bytes.as_slice()),
         _ => String::from_str(heap, "unknown"),
@@ -61,7 +66,28 @@ fn wish(heap: Global, bytes: &[u8]) -> Result<String, AllocError> {
 
 fn rule(heap: Global, bytes: &[u8]) -> Result<String, AllocError> {
     match read_rule(bytes) {
-        Ok(_book) => String::from_str(heap, "ok"),
+        Ok(book) => {
+            let sizes = book.sizes();
+            let states = sizes.span;
+            let labels = sizes.labels;
+            let actions = sizes.actions;
+            let start = book.start();
+            format!(heap, "ok {states} {labels} {actions} {start}")
+        }
+        Err(fault) => refused(heap, fault),
+    }
+}
+
+fn site(heap: Global, bytes: &[u8]) -> Result<String, AllocError> {
+    match read_site(heap, bytes) {
+        Ok(book) => {
+            let sizes = book.sizes();
+            let states = sizes.span;
+            let labels = sizes.labels;
+            let actions = sizes.actions;
+            let bound = sizes.bound;
+            format!(heap, "ok {states} {labels} {actions} {bound}")
+        }
         Err(fault) => refused(heap, fault),
     }
 }

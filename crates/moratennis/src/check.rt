@@ -2,6 +2,7 @@
 use crate::crossing::refused;
 use crate::show;
 use model::Numbered;
+use rulebook::RuleBookNumbered;
 use rulebook::read_rule;
 use sitebook::SiteBookNumbered;
 use sitebook::read_site;
@@ -46,7 +47,7 @@ fn site(rt: &LibcRuntime, bytes: &[u8]) -> Result<(), AnyError> {
 
 fn rule(rt: &LibcRuntime, bytes: &[u8]) -> Result<(), AnyError> {
     match read_rule(bytes) {
-        Ok(_book) => Ok(()),
+        Ok(book) => sizes(rt, "rule", &book),
         Err(fault) => refused(rt, fault),
     }
 }

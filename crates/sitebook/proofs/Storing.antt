@@ -1,45 +1,45 @@
--- The tables follow the draft of the book that is being read, and at the end they hold the book.
-use mathlib.Core.Bool.{Bool, true, false, cond, not, _&&_}
+-- The tables follow the draft of the book that is being read, and at the end they hold the book. For others: `Storing`, what
+-- is known of the pass so far, and the `storing-` lemmas, one for each thing that the pass does.
+use mathlib.Core.Bool.{Bool, true, not, _&&_}
 use mathlib.Core.List.{List, [], _∷_, _++_}
 use mathlib.Core.Path.{_≡_, refl, sym, ap, subst, _∙_}
-use mathlib.Core.Logic.{_⊎_, inl, inr}
+use mathlib.Core.Logic.{inl, inr}
 use Prim.Native.Nat.{ℕ, zero, suc, _+_, _-_, _*_, _%_, _^_, _<_, _≤_}
 use native.Mathlib.Omega.{arith}
 use native.Mathlib.Nat.{zero-add}
 use lib.Dec.{eqb, ltb, leb}
 use lib.ListN.{length, getD, drop, replicate}
-use Rattle.std.specs.declared.option.Option.{Option}
 use Rattle.std.specs.declared.option.Option.the-variants.{Some, None}
 use Rattle.std.specs.declared.result.Result.{Result}
 use Rattle.std.specs.declared.result.Result.the-variants.{Ok, Err}
 use Rattle.std.proofs.shelf.Bits.{mul-le}
-use Rattle.std.proofs.shelf.Lists.{append-nil, append-assoc, length-append, length-replicate, length-push, replicate-more, replicate-append-replicate}
-use Rattle.std.proofs.shelf.Tests.{cases-bool, and-parts, leb-true, eqb-true, true≢false, cond-true, cond-false}
+use Rattle.std.proofs.shelf.Lists.{append-assoc, replicate-more}
+use Rattle.std.proofs.shelf.Tests.{cases-bool, and-parts, leb-true, cond-true, cond-false}
 use Rattle.refusal.specs.declared.Refusal.{Refusal}
-use Rattle.refusal.specs.declared.Refusal.the-variants.{CutOff, WrongEnd, WrongTotal, NotRising, NoWait, WrongKind}
+use Rattle.refusal.specs.declared.Refusal.the-variants.{WrongEnd, WrongTotal, NotRising}
 use Rattle.words.specs.Words.{field, kind, firstWord}
 use Rattle.words.specs.Tests.{all}
-use Rattle.words.specs.Format.{Step, wrong, more, ends, onto, check, Verdict, got, stop, isNil, closing, ending, run, reading}
-use Rattle.words.proofs.Reading.{after, run-short, run-word}
-use Rattle.words.proofs.Tests.{onto-more, onto-ends, check-more, check-ends}
+use Rattle.words.specs.Format.{Step, wrong, more, ends, onto, got, stop, isNil, closing, ending, run, reading}
+use Rattle.words.proofs.Reading.{after, run-short, turn}
+use Rattle.words.proofs.Tests.{onto-more, check-more}
 use Rattle.sitelayout.specs.declared.Entry.{Entry}
 use Rattle.sitelayout.specs.declared.Head.{Head}
 use Rattle.sitelayout.specs.declared.Mark.{Mark}
 use Rattle.sitelayout.specs.declared.Move.{Move}
 use Rattle.sitelayout.specs.declared.Worth.{Worth}
 use Rattle.sitelayout.specs.OneWord.{headOf, maskOf, rewardOf, entryOf, moveOf}
-use Rattle.sitelayout.specs.Site.{Site, taken, total, goodCell, waits, valid}
+use Rattle.sitelayout.specs.Site.{Site, taken, total, goodCell, valid}
 use Rattle.sitelayout.specs.Layout as layout
 use Rattle.sitelayout.specs.Layout.{Draft, fresh, marking, listing, moving, placeOf, padded, marked, readEntry, moved, readMove, readWord, wholeBook, siteFormat}
+use Rattle.sitelayout.proofs.Account.{same-more, more-is-no-end, Good, word-kept, end-word, whole-book, book-kept}
+use Rattle.sitelayout.proofs.OneWords.{GoodHead, head-fields, mask-fields, reward-fields, entry-fields, move-fields}
+use Rattle.sitelayout.proofs.Valid.{cell-good}
 use Rattle.siteverdict.specs.declared.Counts.{Counts}
 use Rattle.siteverdict.specs.Counting.{boundOf, movesIn, Counted}
-use Rattle.siteverdict.proofs.Said.{HeadSays, head-says, mask-says, RewardSays, reward-says, EntrySays, entry-says, MoveSays, move-says}
 use Rattle.siteverdict.proofs.Waiting.{moves-append, moves-filled}
 use Rattle.sitebook.specs.Storing.{Held, nothing, filled, withHead, withMask, withMark, withEntry, withMove, putBy, putOf, edgesOf, bookOf, Closable}
 use Rattle.sitebook.specs.Tables.{cut, siteOf}
-use Rattle.sitebook.proofs.Tables.{flat, startsOf, endsOf, flat-length, flat-filled, starts-append, starts-length, starts-filled, starts-push, flat-push, edges-are, cut-edges, rising}
-use Rattle.sitebook.proofs.Valid.{cell-good}
-use Rattle.sitebook.proofs.Validity.{HeadFits, MarksGood, TableGood, EntryGood, Good, good-step, whole-book, good-book}
+use Rattle.sitebook.proofs.Tables.{flat, startsOf, endsOf, flat-length, flat-filled, starts-length, starts-filled, starts-push, flat-push, edges-are, cut-edges, rising}
 
 pub record Keeps (h : Held) (head : Head) (ms : List Mark) (cs : List (List Move)) : Type 0 where
   pub labels : h .labels ≡ head .labels
@@ -55,12 +55,6 @@ Stores h (marking head ms (Some k)) = Keeps h head ms [] × (h .mask ≡ k)
 Stores h (listing head ms cs) = Keeps h head ms cs
 Stores h (moving head ms cs mv due) = Keeps h head ms (cs ++ (mv ∷ []))
 
-more-is : {d e : Draft} → more d ≡ more e → d ≡ e
-more-is is = cc
-
-ends-is-not-more : {d : Draft} → ends ≡ more d → ⊥
-ends-is-not-more e = let z : _≡_ {A = ℕ} 0 1 = cc in omega arith
-
 stores-marked : (h : Held) (head : Head) (ms : List Mark) → Keeps h head ms [] → Stores h (marked head ms)
 stores-marked h head ms of =
     elim (cases-bool (ltb (length ms) (head .states))) [
@@ -71,12 +65,12 @@ stores-marked h head ms of =
 -- an entry: its cell and all before it have begun
 stores-entry : (h : Held) (head : Head) (ms : List Mark) (cs : List (List Move)) (w : ℕ) (x : Entry) (e : Draft) → Keeps h head ms cs → entryOf (head .states) (head .actions) w ≡ Ok x → readEntry head ms cs x ≡ more e → (kind w ≡ 4) × Stores (withEntry h w) e
 stores-entry h head ms cs w x e of said is =
-    let s = entry-says (head .states) (head .actions) w x said in
+    let s = entry-fields (head .states) (head .actions) w x said in
     let passed = check-more (leb (length cs) (placeOf head x)) NotRising (more (moving head ms (padded (placeOf head x) cs) [] (x .outcomes - 1))) e is in
     let k : ℕ = placeOf head x in
     let le : length cs ≤ k = leb-true (length cs) k (passed .0) in
-    let st : field w 0 12 ≡ x .state = ap (λ (y : Entry). y .state) (s .is) in
-    let ac : field w 12 3 ≡ x .action = ap (λ (y : Entry). y .action) (s .is) in
+    let st : field w 0 12 ≡ x .state = ap (λ (y : Entry). y .state) (s .3) in
+    let ac : field w 12 3 ≡ x .action = ap (λ (y : Entry). y .action) (s .3) in
     let place : field w 0 12 * h .actions + field w 12 3 ≡ k = ap (λ n. n * h .actions + field w 12 3) st ∙ ap (λ n. x .state * n + field w 12 3) (of .actions) ∙ ap (λ n. x .state * head .actions + n) ac in
     let one : k - length cs + 1 ≡ k + 1 - length cs = omega arith in
     let cells : padded k cs ++ ([] ∷ []) ≡ cs ++ replicate (k + 1 - length cs) [] =
@@ -88,8 +82,8 @@ stores-entry h head ms cs w x e of said is =
     ∙ ap (filled (k + 1) (movesIn cs)) (of .starts)
     ∙ ap (λ n. startsOf 0 cs ++ replicate (k + 1 - n) (movesIn cs)) (starts-length 0 cs)
     ∙ sym (ap (startsOf 0) cells ∙ starts-filled cs (k + 1 - length cs)) in (
-      s .four,
-      subst (Stores (withEntry h w)) (more-is (passed .1)) (record {
+      s .0,
+      subst (Stores (withEntry h w)) (same-more (passed .1)) (record {
         labels = of .labels;
         actions = of .actions;
         marks = of .marks;
@@ -101,20 +95,20 @@ stores-entry h head ms cs w x e of said is =
 stores-moved : (h : Held) (head : Head) (ms : List Mark) (cs : List (List Move)) (mv : List Move) (due : ℕ) (e : Draft) → Keeps h head ms (cs ++ (mv ∷ [])) → moved head ms cs mv due ≡ more e → Stores h e
 stores-moved h head ms cs mv zero e of is =
     let passed = check-more (eqb (total mv) 8) WrongTotal (more (listing head ms (cs ++ (mv ∷ [])))) e is in
-    subst (Stores h) (more-is (passed .1)) of
-stores-moved h head ms cs mv (suc due) e of is = subst (Stores h) (more-is is) of
+    subst (Stores h) (same-more (passed .1)) of
+stores-moved h head ms cs mv (suc due) e of is = subst (Stores h) (same-more is) of
 
 stores-move : (h : Held) (head : Head) (ms : List Mark) (cs : List (List Move)) (mv : List Move) (due w : ℕ) (x : Move) (e : Draft) → Keeps h head ms (cs ++ (mv ∷ [])) → moveOf (head .states) w ≡ Ok x → readMove head ms cs mv due x ≡ more e → (kind w ≡ 5) × Stores (withMove h w) e
 stores-move h head ms cs mv due w x e of said is =
-    let s = move-says (head .states) w x said in
+    let s = move-fields (head .states) w x said in
     let passed = check-more (not (taken (x .target) mv)) NotRising (moved head ms cs (mv ++ (x ∷ [])) due) e is in (
-      s .five,
+      s .0,
       stores-moved (withMove h w) head ms cs (mv ++ (x ∷ [])) due e (record {
         labels = of .labels;
         actions = of .actions;
         marks = of .marks;
         starts = of .starts ∙ starts-push cs mv (mv ++ (x ∷ []));
-        moves = ap (λ (m : Move). h .moves ++ (m ∷ [])) (s .is) ∙ ap (λ (l : List Move). l ++ (x ∷ [])) (of .moves) ∙ sym (flat-push cs mv x);
+        moves = ap (λ (m : Move). h .moves ++ (m ∷ [])) (s .3) ∙ ap (λ (l : List Move). l ++ (x ∷ [])) (of .moves) ∙ sym (flat-push cs mv x);
       }) (passed .1),
     )
 
@@ -123,11 +117,11 @@ pub stores-step : (h : Held) (d e : Draft) (w : ℕ) → Stores h d → readWord
 unfolding readWord
 stores-step h fresh e w of is =
     let said = onto-more (headOf w) (λ x. more (marking x [] None)) e is in
-    let s = head-says w (said .0) (said .1 .0) in (
-      omega (arith, s .one),
-      subst (λ k. Stores (putBy k h w) e) (sym (s .one)) (subst (Stores (withHead h w)) (more-is (said .1 .1)) (record {
-        labels = ap (λ (x : Head). x .labels) (s .is);
-        actions = ap (λ (x : Head). x .actions) (s .is);
+    let s = head-fields w (said .0) (said .1 .0) in (
+      omega (arith, s .0),
+      subst (λ k. Stores (putBy k h w) e) (sym (s .0)) (subst (Stores (withHead h w)) (same-more (said .1 .1)) (record {
+        labels = ap (λ (x : Head). x .labels) (s .3);
+        actions = ap (λ (x : Head). x .actions) (s .3);
         marks = ap (λ (x : Held). x .marks) of;
         starts = ap (λ (x : Held). x .starts) of;
         moves = ap (λ (x : Held). x .moves) of;
@@ -135,19 +129,19 @@ stores-step h fresh e w of is =
     )
 stores-step h (marking head ms None) e w of is =
     let said = onto-more (maskOf (head .labels) w) (λ m. more (marking head ms (Some m))) e is in
-    let s = mask-says (head .labels) w (said .0) (said .1 .0) in (
+    let s = mask-fields (head .labels) w (said .0) (said .1 .0) in (
       omega (arith, s .0),
-      subst (λ k. Stores (putBy k h w) e) (sym (s .0)) (subst (Stores (withMask h w)) (more-is (said .1 .1))
-          (record { labels = of .labels; actions = of .actions; marks = of .marks; starts = of .starts; moves = of .moves }, s .1)),
+      subst (λ k. Stores (putBy k h w) e) (sym (s .0)) (subst (Stores (withMask h w)) (same-more (said .1 .1))
+          (record { labels = of .labels; actions = of .actions; marks = of .marks; starts = of .starts; moves = of .moves }, s .3)),
     )
 stores-step h (marking head ms (Some k)) e w of is =
     let said = onto-more (rewardOf w) (λ r. more (marked head (ms ++ (record { mask = k; raised = r .raised; origin = r .origin } ∷ [])))) e is in
-    let s = reward-says w (said .0) (said .1 .0) in
+    let s = reward-fields w (said .0) (said .1 .0) in
     let kept = of .0 in
     let mark : _≡_ {A = Mark} (record { mask = h .mask; raised = field w 0 12; origin = field w 12 12 }) (record { mask = k; raised = said .0 .raised; origin = said .0 .origin }) =
-    ap {B = Mark} (λ (n : ℕ). record { mask = n; raised = field w 0 12; origin = field w 12 12 }) (of .1) ∙ ap {B = Mark} (λ (r : Worth). record { mask = k; raised = r .raised; origin = r .origin }) (s .is) in (
-      omega (arith, s .three),
-      subst (λ n. Stores (putBy n h w) e) (sym (s .three)) (subst (Stores (withMark h w)) (more-is (said .1 .1))
+    ap {B = Mark} (λ (n : ℕ). record { mask = n; raised = field w 0 12; origin = field w 12 12 }) (of .1) ∙ ap {B = Mark} (λ (r : Worth). record { mask = k; raised = r .raised; origin = r .origin }) (s .3) in (
+      omega (arith, s .0),
+      subst (λ n. Stores (putBy n h w) e) (sym (s .0)) (subst (Stores (withMark h w)) (same-more (said .1 .1))
           (stores-marked (withMark h w) head (ms ++ (record { mask = k; raised = said .0 .raised; origin = said .0 .origin } ∷ []))
           (record {
             labels = kept .labels;
@@ -159,7 +153,7 @@ stores-step h (marking head ms (Some k)) e w of is =
     )
 stores-step h (listing head ms cs) e w of is =
     elim (cases-bool (eqb (kind w) 15)) [
-      | inl t ↦ absurd (ends-is-not-more (sym (cond-true _ ends (onto (entryOf (head .states) (head .actions) w) (readEntry head ms cs)) t) ∙ is))
+      | inl t ↦ absurd (more-is-no-end (sym is ∙ cond-true _ ends (onto (entryOf (head .states) (head .actions) w) (readEntry head ms cs)) t))
       | inr t ↦
           let said = onto-more (entryOf (head .states) (head .actions) w) (readEntry head ms cs) e (sym (cond-false _ ends (onto (entryOf (head .states) (head .actions) w) (readEntry head ms cs)) t) ∙ is) in
           let s = stores-entry h head ms cs w (said .0) e of (said .1 .0) (said .1 .1) in
@@ -218,47 +212,19 @@ moves-few states (c ∷ cs) e =
     let p = and-parts (goodCell states c) (all (goodCell states) cs) e in
     omega (arith, cell-good states c (p .0) .few, moves-few states cs (p .1))
 
-table-room : (head : Head) (ms : List Mark) (cs : List (List Move)) → TableGood head ms cs → movesIn cs ≤ 262144
-table-room head ms cs of =
-    omega (arith, moves-few (head .states) cs (of .cells), of .few, mul-le (head .states) (head .actions) 4096 8 (of .head .states) (of .head .actions))
+table-room : (head : Head) (cs : List (List Move)) → GoodHead head → all (goodCell (head .states)) cs ≡ true → length cs ≤ head .states * head .actions → movesIn cs ≤ 262144
+table-room head cs good each few = omega (arith, moves-few (head .states) cs each, few, mul-le (head .states) (head .actions) 4096 8 (good .1) (good .4))
 
 -- there is room for one more word
 pub stores-room : (h : Held) (d : Draft) → Good d → Stores h d → (h .actions ≤ 8) × (length (h .moves) < 2 ^ 32)
 stores-room h fresh good of = (omega (arith, ap (λ (x : Held). x .actions) of), omega (arith, ap (λ (x : Held). length (x .moves)) of))
-stores-room h (marking head ms None) good of = (omega (arith, of .actions, good .head .actions), omega (arith, ap length (of .moves)))
-stores-room h (marking head ms (Some k)) good of = (omega (arith, of .0 .actions, good .head .actions), omega (arith, ap length (of .0 .moves)))
-stores-room h (listing head ms cs) good of = (omega (arith, of .actions, good .head .actions), omega (arith, ap length (of .moves), flat-length cs, table-room head ms cs good))
+stores-room h (marking head ms None) good of = (omega (arith, of .actions, good .0 .0 .4), omega (arith, ap length (of .moves)))
+stores-room h (marking head ms (Some k)) good of = (omega (arith, of .0 .actions, good .0 .0 .4), omega (arith, ap length (of .0 .moves)))
+stores-room h (listing head ms cs) good of = (omega (arith, of .actions, good .0 .0 .4), omega (arith, ap length (of .moves), flat-length cs, table-room head cs (good .0 .0) (good .1 .1 .0) (good .1 .1 .1)))
 stores-room h (moving head ms cs mv due) good of = (
-  omega (arith, of .actions, good .table .head .actions),
-  omega (arith, ap length (of .moves), flat-length (cs ++ (mv ∷ [])), moves-append cs (mv ∷ []), table-room head ms cs (good .table), good .left),
+  omega (arith, of .actions, good .0 .0 .4),
+  omega (arith, ap length (of .moves), flat-length (cs ++ (mv ∷ [])), moves-append cs (mv ∷ []), table-room head cs (good .0 .0) (good .1 .1 .0) (omega (arith, good .1 .1 .1 .0)), good .1 .1 .1 .1 .1 .1),
 )
-
--- the end word comes after whole entries
-more-is-not-end : {d : Draft} → more d ≡ ends → ⊥
-more-is-not-end e = let z : _≡_ {A = ℕ} 0 1 = cc in omega arith
-
-moved-ends-not : (head : Head) (ms : List Mark) (cs : List (List Move)) (mv : List Move) (due : ℕ) → moved head ms cs mv due ≡ ends → ⊥
-moved-ends-not head ms cs mv zero e = more-is-not-end (check-ends (eqb (total mv) 8) WrongTotal (more (listing head ms (cs ++ (mv ∷ [])))) e .1)
-moved-ends-not head ms cs mv (suc due) e = more-is-not-end e
-
-abbrev Listed : Draft → Type 0
-Listed d = (head : Head) × ((ms : List Mark) × ((cs : List (List Move)) × (d ≡ listing head ms cs)))
-
-ends-listed : (d : Draft) (w : ℕ) → readWord d w ≡ ends → (kind w ≡ 15) × Listed d
-unfolding readWord
-ends-listed fresh w is = absurd (more-is-not-end (onto-ends (headOf w) (λ x. more (marking x [] None)) is .1 .1))
-ends-listed (marking head ms None) w is = absurd (more-is-not-end (onto-ends (maskOf (head .labels) w) (λ m. more (marking head ms (Some m))) is .1 .1))
-ends-listed (marking head ms (Some k)) w is = absurd (more-is-not-end (onto-ends (rewardOf w) (λ r. more (marked head (ms ++ (record { mask = k; raised = r .raised; origin = r .origin } ∷ [])))) is .1 .1))
-ends-listed (listing head ms cs) w is =
-    elim (cases-bool (eqb (kind w) 15)) [
-      | inl t ↦ (eqb-true (kind w) 15 t, (head, (ms, (cs, refl))))
-      | inr t ↦
-          let said = onto-ends (entryOf (head .states) (head .actions) w) (readEntry head ms cs) (sym (cond-false _ ends (onto (entryOf (head .states) (head .actions) w) (readEntry head ms cs)) t) ∙ is) in
-          absurd (more-is-not-end (check-ends (leb (length cs) (placeOf head (said .0))) NotRising (more (moving head ms (padded (placeOf head (said .0)) cs) [] (said .0 .outcomes - 1))) (said .1 .1) .1))
-    ]
-ends-listed (moving head ms cs mv due) w is =
-    let said = onto-ends (moveOf (head .states) w) (readMove head ms cs mv due) is in
-    absurd (moved-ends-not head ms cs (mv ++ (said .0 ∷ [])) due (check-ends (not (taken (said .0 .target) mv)) NotRising (moved head ms cs (mv ++ (said .0 ∷ [])) due) (said .1 .1) .1))
 
 -- the pass so far: the tables follow a draft, from which reading on gives the book
 pub record Storing (bytes rest : List ℕ) (c : Counts) (h : Held) : Type 0 where
@@ -299,20 +265,17 @@ module _ (bytes rest : List ℕ) (c : Counts) (h : Held) (s : Storing bytes rest
   module _ (next : List ℕ) (w : ℕ) (four : 4 ≤ length rest) (word : w ≡ firstWord rest) (after-it : next ≡ drop 4 rest) where
     here : after siteFormat (s .draft) (s .place) w next (readWord (s .draft) w) ≡ got (s .book)
     here =
-        sym (run-word siteFormat (s .draft) (s .place) rest four
-        ∙ ap (λ (l : List ℕ). after siteFormat (s .draft) (s .place) (firstWord rest) l (readWord (s .draft) (firstWord rest))) (sym after-it)
-        ∙ ap (λ x. after siteFormat (s .draft) (s .place) x next (readWord (s .draft) x)) (sym word))
-        ∙ s .left
+        sym (turn siteFormat (s .draft) (s .place) rest next w (readWord (s .draft) w) (four, word, after-it) refl) ∙ s .left
 
     more-by : (st : Step Draft) → readWord (s .draft) w ≡ st → (kind w ≡ 15 → ⊥) → Storing bytes next c (putOf h w)
     more-by (wrong r) is inside = absurd (stop-is-no-book (sym (ap (after siteFormat (s .draft) (s .place) w next) is) ∙ here))
-    more-by ends is inside = absurd (inside (ends-listed (s .draft) w is .0))
+    more-by ends is inside = absurd (inside (end-word (s .draft) w is))
     more-by (more e) is inside = record {
       book = s .book;
       read = s .read;
       counted = s .counted;
       draft = e;
-      good = good-step (s .draft) e w (s .good) is;
+      good = word-kept (s .draft) e w (s .good) is .0;
       kept = stores-step h (s .draft) e w (s .kept) is .1;
       place = s .place + 1;
       left = sym (ap (after siteFormat (s .draft) (s .place) w next) is) ∙ here;
@@ -324,18 +287,22 @@ module _ (bytes rest : List ℕ) (c : Counts) (h : Held) (s : Storing bytes rest
     abbrev pub Closes : Type 0
     Closes = (reading siteFormat bytes ≡ got (bookOf h)) × Closable c h
 
-    closes-table : (head : Head) (ms : List Mark) (cs : List (List Move)) → TableGood head ms cs → Keeps h head ms cs → wholeBook (listing head ms cs) ≡ Ok (s .book) → Closes
-    closes-table head ms cs good kept whole =
-        let told = whole-book head ms cs (s .book) whole in
-        let is : bookOf h ≡ s .book = book-at-end h head ms cs kept (good .count) (good .few) ∙ told .1 in
-        let long : length (h .marks) ≡ head .states = ap length (kept .marks) ∙ good .count in (
+    closes-table : (d : Draft) → Good d → Stores h d → wholeBook d ≡ Ok (s .book) → Closes
+    unfolding wholeBook
+    closes-table fresh good kept whole = let z : _≡_ {A = ℕ} 0 1 = cc in absurd (omega arith)
+    closes-table (marking head ms o) good kept whole = let z : _≡_ {A = ℕ} 0 1 = cc in absurd (omega arith)
+    closes-table (moving head ms cs mv due) good kept whole = let z : _≡_ {A = ℕ} 0 1 = cc in absurd (omega arith)
+    closes-table (listing head ms cs) good kept whole =
+        let count = good .1 .0 in
+        let few = good .1 .1 .1 in
+        let is : bookOf h ≡ s .book = book-at-end h head ms cs kept count few ∙ whole-book head ms cs (s .book) whole .1 in (
           s .read ∙ ap (λ (b : Site). got b) (sym is),
           record {
-            sound = ap valid (book-at-end h head ms cs kept (good .count) (good .few)) ∙ good-book head ms cs good (told .0);
-            rising = rising-at-end h head ms cs kept (good .count) (good .few);
+            sound = ap valid is ∙ book-kept (listing head ms cs) (s .book) good whole .0;
+            rising = rising-at-end h head ms cs kept count few;
             most = s .counted .bound ∙ ap (λ (b : Site). boundOf (b .marks)) (sym is);
-            states = omega (arith, long, good .head .states);
-            actions = omega (arith, kept .actions, good .head .actions);
+            states = omega (arith, ap length (kept .marks), count, good .0 .0 .1);
+            actions = storing-room .0;
             small = storing-room .1;
           },
         )
@@ -344,12 +311,8 @@ module _ (bytes rest : List ℕ) (c : Counts) (h : Held) (s : Storing bytes rest
     closes-by (wrong r) is fifteen = absurd (stop-is-no-book (sym (ap (after siteFormat (s .draft) (s .place) w next) is) ∙ here))
     closes-by (more e) is fifteen = absurd (omega (arith, stores-step h (s .draft) e w (s .kept) is .0))
     closes-by ends is fifteen =
-        let at = ends-listed (s .draft) w is .1 in
-        let whole = ending-whole (wholeBook (s .draft)) (s .place) w (isNil next) (s .book) (sym (ap (after siteFormat (s .draft) (s .place) w next) is) ∙ here) in
-        closes-table (at .0) (at .1 .0) (at .1 .1 .0)
-        (subst Good (at .1 .1 .1) (s .good))
-        (subst (Stores h) (at .1 .1 .1) (s .kept))
-        (ap wholeBook (sym (at .1 .1 .1)) ∙ whole)
+        closes-table (s .draft) (s .good) (s .kept)
+        (ending-whole (wholeBook (s .draft)) (s .place) w (isNil next) (s .book) (sym (ap (after siteFormat (s .draft) (s .place) w next) is) ∙ here))
 
     pub storing-end : kind w ≡ 15 → Closes
     storing-end fifteen = closes-by (readWord (s .draft) w) refl fifteen

@@ -1,22 +1,20 @@
 -- The tables that a book is stored in: what a cell is by its edges, and that cutting at the edges gives the cells back.
-use mathlib.Core.Bool.{Bool, true, false, _&&_}
+use mathlib.Core.Bool.{true}
 use mathlib.Core.List.{List, [], _∷_, _++_}
-use mathlib.Core.Path.{_≡_, refl, sym, ap, subst, _∙_}
-use mathlib.Core.Logic.{_⊎_, inl, inr}
+use mathlib.Core.Path.{_≡_, refl, sym, ap, _∙_}
 use Prim.Native.Nat.{ℕ, zero, suc, _+_, _-_, _*_, _<_, _≤_}
 use native.Mathlib.Omega.{arith}
 use native.Mathlib.Nat.{add-assoc, add-zero, zero-add}
 use native.Mathlib.Numerals.{add-one}
-use lib.Dec.{ltb}
 use lib.ListN.{length, take, drop, getD, replicate}
 use Rattle.std.proofs.shelf.Bits.{mul-add-lt}
 use Rattle.std.proofs.shelf.Lists.{append-nil, append-assoc, length-append, drop-at, take-at}
 use Rattle.sitelayout.specs.declared.Mark.{Mark}
 use Rattle.sitelayout.specs.declared.Move.{Move}
-use Rattle.sitelayout.specs.Site.{Site, valid}
+use Rattle.sitelayout.specs.Site.{valid}
+use Rattle.sitelayout.proofs.Valid.{validly}
 use Rattle.siteverdict.specs.Counting.{movesIn}
 use Rattle.sitebook.specs.Tables.{cutFrom, cut, siteOf}
-use Rattle.sitebook.proofs.Valid.{valid-parts}
 
 cut-from-length : (s : ℕ) (ts : List ℕ) (row : List Move) → length (cutFrom s ts row) ≡ length ts
 cut-from-length s [] row = refl
@@ -39,8 +37,8 @@ cut-at (s ∷ ts) row k h = cut-from-at s ts row k (omega arith) ∙ ap (λ n. t
 -- the place of a state and an action has both its edges
 pub place-within : (labels actions : ℕ) (marks : List Mark) (starts : List ℕ) (row : List Move) (s a : ℕ) → valid (siteOf labels actions marks starts row) ≡ true → s < length marks → a < actions → s * actions + a + 1 < length starts
 place-within labels actions marks starts row s a v hs ha =
-    let p = valid-parts (siteOf labels actions marks starts row) v in
-    omega (arith, p .cells, cut-length starts row, mul-add-lt s actions a (length marks) hs ha)
+    let p = validly (siteOf labels actions marks starts row) v in
+    omega (arith, p .table, cut-length starts row, mul-add-lt s actions a (length marks) hs ha)
 
 -- all outcomes in one row
 abbrev pub flat : List (List Move) → List Move

@@ -1,13 +1,15 @@
--- Whatever is accepted is the encoding of the site book that was read: the words read so far are those of the draft.
-use mathlib.Core.Bool.{Bool, true, false, cond, not, _&&_, _||_}
+-- Whatever is accepted is the encoding of the site book that was read: the words read so far are those of the draft. For
+-- others: `Good`, what is known of a draft; `word-kept`, that each word keeps it; `end-word`, that only an end word ends;
+-- `whole-book` and `book-kept` of the book at the end; `total-push`, `padded-length` and the like.
+use mathlib.Core.Bool.{Bool, true, false, cond, not, _&&_}
 use mathlib.Core.List.{List, [], _∷_, _++_, append-assoc, append-nil}
 use mathlib.Core.Path.{_≡_, refl, sym, ap, subst, _∙_}
-use mathlib.Core.Logic.{_⊎_, inl, inr}
+use mathlib.Core.Logic.{inl, inr}
 use Prim.Native.Nat.{ℕ, zero, suc, _+_, _-_, _*_, _/_, _%_, _^_, _<_, _≤_}
 use native.Mathlib.Nat.{zero-add}
 use native.Mathlib.Omega.{arith}
 use lib.Dec.{eqb, ltb, leb}
-use lib.ListN.{length, getD, replicate, length-append, length-replicate}
+use lib.ListN.{length, replicate, length-append, length-replicate}
 use Rattle.std.specs.declared.option.Option.{Option}
 use Rattle.std.specs.declared.option.Option.the-variants.{Some, None}
 use Rattle.std.specs.declared.result.Result.{Result}
@@ -18,7 +20,7 @@ use Rattle.std.proofs.shelf.Tests.{and-parts, and-from, or-right, or-parts, or-
 use Rattle.refusal.specs.declared.Refusal.{Refusal}
 use Rattle.refusal.specs.declared.Refusal.the-variants.{WrongTotal, NotRising, NoWait}
 use Rattle.words.specs.Words.{kind}
-use Rattle.words.specs.Format.{Step, wrong, more, ends, check, onto}
+use Rattle.words.specs.Format.{more, ends, onto}
 use Rattle.words.specs.Tests.{all, within, none}
 use Rattle.words.proofs.Tests.{all-push, all-append, all-replicate, check-more, onto-more, onto-ends, check-ends, within-from}
 use Rattle.sitelayout.specs.declared.Entry.{Entry}
@@ -29,7 +31,7 @@ use Rattle.sitelayout.specs.declared.Worth.{Worth}
 use Rattle.sitelayout.specs.OneWord.{headWord, maskWord, rewardWord, entryWord, moveWord, headOf, maskOf, rewardOf, entryOf, moveOf}
 use Rattle.sitelayout.specs.Site.{Site, taken, apart, total, goodMark, goodMove, goodCell, waits, valid}
 use Rattle.sitelayout.specs.Layout.{markWords, moveWords, cellWord, cellWords, siteWords, Draft, fresh, marking, listing, moving, placeOf, padded, marked, readEntry, moved, readMove, readWord, bookOf, wholeBook}
-use Rattle.sitelayout.proofs.OneWords.{GoodHead, GoodEntry, GoodOutcome, head-reads, mask-reads, reward-reads, entry-reads, move-reads}
+use Rattle.sitelayout.proofs.OneWords.{GoodHead, head-reads, mask-reads, reward-reads, entry-reads, move-reads}
 
 abbrev headWords : Head → ℕ
 headWords h = headWord (h .states) (h .labels) (h .actions)
@@ -128,7 +130,7 @@ apart-push (x ∷ ms) m h k =
 
 -- one word more
 
-same-more : {x y : Draft} → more x ≡ more y → x ≡ y
+pub same-more : {x y : Draft} → more x ≡ more y → x ≡ y
 same-more e = cc
 
 abbrev Next : Draft → ℕ → Draft → Type 0
@@ -222,20 +224,20 @@ move-next h ms cs mv (suc due) w m t g said free e =
     ((g .0, (g .1 .0, (g .1 .1 .0, (g .1 .1 .1 .0, (all-push (goodMove (h .states)) mv m (g .1 .1 .1 .1 .0) one, (apart-push mv m (g .1 .1 .1 .1 .1 .0) free, omega (arith, long, g .1 .1 .1 .1 .1 .1))))))), line)
 
 -- each word that is read keeps what is known, and is the next of the words written
-pub word-kept : (d t : Draft) (w : ℕ) → w < 2 ^ 32 → Good d → readWord d w ≡ more t → Good t × (written t ≡ written d ++ (w ∷ []))
+pub word-kept : (d t : Draft) (w : ℕ) → Good d → readWord d w ≡ more t → Good t × (written t ≡ written d ++ (w ∷ []))
 unfolding readWord
-word-kept fresh t w low g e =
+word-kept fresh t w g e =
     let got = onto-more (headOf w) (λ h. more (marking h [] None)) t e in
     let told = head-reads w (got .0) (got .1 .0) in
     subst (Next fresh w) (same-more (got .1 .1)) (((told .1, refl), (omega (arith, told .1 .0), tt)), ap (λ v. v ∷ []) (sym (told .0)))
-word-kept (marking h ms None) t w low g e =
+word-kept (marking h ms None) t w g e =
     let got = onto-more (maskOf (h .labels) w) (λ m. more (marking h ms (Some m))) t e in
     let told = mask-reads (h .labels) w (got .0) (got .1 .0) in
     subst (Next (marking h ms None) w) (same-more (got .1 .1)) ((g .0, (g .1 .0, told .1)), ap (λ v. headWords h ∷ (markWords ms ++ (v ∷ []))) (sym (told .0)))
-word-kept (marking h ms (Some m)) t w low g e =
+word-kept (marking h ms (Some m)) t w g e =
     let got = onto-more (rewardOf w) (λ r. more (marked h (ms ++ (record { mask = m; raised = r .raised; origin = r .origin } ∷ [])))) t e in
     subst (Next (marking h ms (Some m)) w) (same-more (got .1 .1)) (mark-next h ms m w (got .0) g (got .1 .0))
-word-kept (listing h ms cs) t w low g e =
+word-kept (listing h ms cs) t w g e =
     elim (cases-bool (eqb (kind w) 15)) [
       | inl is ↦ let z : _≡_ {A = ℕ} 0 1 = cc (ap (λ b. cond b ends (onto (entryOf (h .states) (h .actions) w) (readEntry h ms cs))) is, e) in absurd (omega arith)
       | inr no15 ↦
@@ -243,12 +245,12 @@ word-kept (listing h ms cs) t w low g e =
           let rising = check-more (leb (length cs) (placeOf h (got .0))) NotRising (more (moving h ms (padded (placeOf h (got .0)) cs) [] (got .0 .outcomes - 1))) t (got .1 .1) in
           subst (Next (listing h ms cs) w) (same-more (rising .1)) (entry-next h ms cs w (got .0) g (got .1 .0) (leb-true (length cs) (placeOf h (got .0)) (rising .0)))
     ]
-word-kept (moving h ms cs mv due) t w low g e =
+word-kept (moving h ms cs mv due) t w g e =
     let got = onto-more (moveOf (h .states) w) (readMove h ms cs mv due) t e in
     let free = check-more (not (taken (got .0 .target) mv)) NotRising (moved h ms cs (mv ++ (got .0 ∷ [])) due) t (got .1 .1) in
     move-next h ms cs mv due w (got .0) t g (got .1 .0) (not-true (taken (got .0 .target) mv) (free .0)) (free .1)
 
-more-is-no-end : {t : Draft} → more t ≡ ends → ⊥
+pub more-is-no-end : {t : Draft} → more t ≡ ends → ⊥
 more-is-no-end e = let z : _≡_ {A = ℕ} 0 1 = cc in omega arith
 
 moved-no-end : (h : Head) (ms : List Mark) (cs : List (List Move)) (mv : List Move) (due : ℕ) → moved h ms cs mv due ≡ ends → ⊥
@@ -256,19 +258,19 @@ moved-no-end h ms cs mv zero e = more-is-no-end (check-ends (eqb (total mv) 8) W
 moved-no-end h ms cs mv (suc due) e = more-is-no-end e
 
 -- only an end word ends
-pub end-word : (d : Draft) (w : ℕ) → w < 2 ^ 32 → Good d → readWord d w ≡ ends → kind w ≡ 15
+pub end-word : (d : Draft) (w : ℕ) → readWord d w ≡ ends → kind w ≡ 15
 unfolding readWord
-end-word fresh w low g e = absurd (more-is-no-end (onto-ends (headOf w) (λ h. more (marking h [] None)) e .1 .1))
-end-word (marking h ms None) w low g e = absurd (more-is-no-end (onto-ends (maskOf (h .labels) w) (λ m. more (marking h ms (Some m))) e .1 .1))
-end-word (marking h ms (Some m)) w low g e = absurd (more-is-no-end (onto-ends (rewardOf w) (λ r. more (marked h (ms ++ (record { mask = m; raised = r .raised; origin = r .origin } ∷ [])))) e .1 .1))
-end-word (listing h ms cs) w low g e =
+end-word fresh w e = absurd (more-is-no-end (onto-ends (headOf w) (λ h. more (marking h [] None)) e .1 .1))
+end-word (marking h ms None) w e = absurd (more-is-no-end (onto-ends (maskOf (h .labels) w) (λ m. more (marking h ms (Some m))) e .1 .1))
+end-word (marking h ms (Some m)) w e = absurd (more-is-no-end (onto-ends (rewardOf w) (λ r. more (marked h (ms ++ (record { mask = m; raised = r .raised; origin = r .origin } ∷ [])))) e .1 .1))
+end-word (listing h ms cs) w e =
     elim (cases-bool (eqb (kind w) 15)) [
       | inl is ↦ eqb-true (kind w) 15 is
       | inr no15 ↦
           let got = onto-ends (entryOf (h .states) (h .actions) w) (readEntry h ms cs) (sym (ap (λ b. cond b ends (onto (entryOf (h .states) (h .actions) w) (readEntry h ms cs))) no15) ∙ e) in
           absurd (more-is-no-end (check-ends (leb (length cs) (placeOf h (got .0))) NotRising (more (moving h ms (padded (placeOf h (got .0)) cs) [] (got .0 .outcomes - 1))) (got .1 .1) .1))
     ]
-end-word (moving h ms cs mv due) w low g e =
+end-word (moving h ms cs mv due) w e =
     let got = onto-ends (moveOf (h .states) w) (readMove h ms cs mv due) e in
     absurd (moved-no-end h ms cs (mv ++ (got .0 ∷ [])) due (check-ends (not (taken (got .0 .target) mv)) NotRising (moved h ms cs (mv ++ (got .0 ∷ [])) due) (got .1 .1) .1))
 
@@ -293,6 +295,15 @@ valid-from h ms cs g long marks cells few w =
 abbrev pub choice : Bool → Site → Result Site Refusal
 choice t b = cond t (Ok b) (Err NoWait)
 
+-- a whole book is that of the table, and every state waits
+pub whole-book : (h : Head) (ms : List Mark) (cs : List (List Move)) (b : Site) → wholeBook (listing h ms cs) ≡ Ok b → (waits (h .actions) (h .states) (padded (h .states * h .actions) cs) ≡ true) × (bookOf h ms cs ≡ b)
+unfolding wholeBook
+whole-book h ms cs b e =
+    elim (cases-bool (waits (h .actions) (h .states) (padded (h .states * h .actions) cs))) [
+      | inr never ↦ let z : _≡_ {A = ℕ} 0 1 = cc (ap (λ t. choice t (bookOf h ms cs)) never, e) in absurd (omega arith)
+      | inl w ↦ (w, same-book (sym (ap (λ t. choice t (bookOf h ms cs)) w) ∙ e))
+    ]
+
 -- a whole book is valid, and its words are those that were read
 pub book-kept : (d : Draft) (b : Site) → Good d → wholeBook d ≡ Ok b → (valid b ≡ true) × (written d ≡ siteWords b)
 unfolding wholeBook
@@ -300,13 +311,8 @@ book-kept fresh b g e = let z : _≡_ {A = ℕ} 0 1 = cc in absurd (omega arith)
 book-kept (marking h ms o) b g e = let z : _≡_ {A = ℕ} 0 1 = cc in absurd (omega arith)
 book-kept (moving h ms cs mv due) b g e = let z : _≡_ {A = ℕ} 0 1 = cc in absurd (omega arith)
 book-kept (listing h ms cs) b g e =
-    let n = h .states * h .actions in
-    elim (cases-bool (waits (h .actions) (h .states) (padded (h .states * h .actions) cs))) [
-      | inr never ↦ let z : _≡_ {A = ℕ} 0 1 = cc (ap (λ t. choice t (bookOf h ms cs)) never, e) in absurd (omega arith)
-      | inl w ↦
-          let same : bookOf h ms cs ≡ b = same-book (sym (ap (λ t. choice t (bookOf h ms cs)) w) ∙ e) in
-          subst (λ b. (valid b ≡ true) × (written (listing h ms cs) ≡ siteWords b)) same (
-            valid-from h ms cs (g .0 .0) (g .1 .0) (g .0 .1) (g .1 .1 .0) (g .1 .1 .1) w,
-            sym (λ i. headWord (g .1 .0 i) (h .labels) (h .actions) ∷ (markWords ms ++ cell-words-padded (h .actions) (h .states * h .actions) cs i)),
-          )
-    ]
+    let told = whole-book h ms cs b e in
+    subst (λ b. (valid b ≡ true) × (written (listing h ms cs) ≡ siteWords b)) (told .1) (
+      valid-from h ms cs (g .0 .0) (g .1 .0) (g .0 .1) (g .1 .1 .0) (g .1 .1 .1) (told .0),
+      sym (λ i. headWord (g .1 .0 i) (h .labels) (h .actions) ∷ (markWords ms ++ cell-words-padded (h .actions) (h .states * h .actions) cs i)),
+    )

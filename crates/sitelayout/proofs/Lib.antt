@@ -1,3 +1,4 @@
 pub mod OneWords
 pub mod Account
+pub mod Valid
 pub mod Way

@@ -1,15 +1,14 @@
--- Each word of a site book, read and written: what is read from a word is what it was written from, and a word that reads well
--- is the one that is written for what was read.
-use mathlib.Core.Bool.{Bool, true, false, cond, _&&_}
-use mathlib.Core.Path.{_≡_, refl, sym, ap, subst, _∙_}
+-- Each word of a site book, read and written. For others: of a word that reads well, `head-reads` and the like say that it is
+-- the one that is written for what was read, and what ranges that lies in; `head-fields` and the like say its kind and fields;
+-- `head-written` and the like say that what is read from a word is what it was written from.
+use mathlib.Core.Bool.{Bool, true, _&&_}
+use mathlib.Core.Path.{_≡_, ap, subst, _∙_}
 use Prim.Native.Nat.{ℕ, _+_, _*_, _^_, _<_, _≤_}
 use native.Mathlib.Omega.{arith}
 use lib.Dec.{eqb, ltb, leb}
 use lib.Pow.{pow-mono}
-use Rattle.std.specs.declared.result.Result.{Result}
-use Rattle.std.specs.declared.result.Result.the-variants.{Ok, Err}
+use Rattle.std.specs.declared.result.Result.the-variants.{Ok}
 use Rattle.std.proofs.shelf.Tests.{and-parts, and-from, eqb-true, eq-eqb, ltb-true, lt-ltb, leb-true, le-leb}
-use Rattle.refusal.specs.declared.Refusal.{Refusal}
 use Rattle.refusal.specs.declared.Refusal.the-variants.{WrongKind, UnusedBit, OutOfRange}
 use Rattle.words.specs.Words.{field, kind}
 use Rattle.words.specs.Format.{require}
@@ -23,13 +22,13 @@ use Rattle.sitelayout.specs.declared.Worth.{Worth}
 use Rattle.sitelayout.specs.OneWord.{headWord, maskWord, rewardWord, entryWord, moveWord, headOf, maskOf, rewardOf, entryOf, moveOf}
 
 -- a word that reads well has passed the three tests, and says what was read
-three-passed : {X : Type 0} (kinds unused ranges : Bool) (x y : X) → require kinds WrongKind (require unused UnusedBit (require ranges OutOfRange (Ok x))) ≡ Ok y → (kinds ≡ true) × (unused ≡ true) × (ranges ≡ true) × (x ≡ y)
-three-passed kinds unused ranges x y e =
-    let a = require-ok kinds WrongKind (require unused UnusedBit (require ranges OutOfRange (Ok x))) y e in
-    let b = require-ok unused UnusedBit (require ranges OutOfRange (Ok x)) y (a .1) in
+three-passed : {X : Type 0} (k n unused : ℕ) (ranges : Bool) (x y : X) → require (eqb k n) WrongKind (require (eqb unused 0) UnusedBit (require ranges OutOfRange (Ok x))) ≡ Ok y → (k ≡ n) × (unused ≡ 0) × (ranges ≡ true) × (x ≡ y)
+three-passed k n unused ranges x y e =
+    let a = require-ok (eqb k n) WrongKind (require (eqb unused 0) UnusedBit (require ranges OutOfRange (Ok x))) y e in
+    let b = require-ok (eqb unused 0) UnusedBit (require ranges OutOfRange (Ok x)) y (a .1) in
     let c = require-ok ranges OutOfRange (Ok x) y (b .1) in
     let same : Ok x ≡ Ok y = c .1 in
-    (a .0, b .0, c .0, cc)
+    (eqb-true k n (a .0), eqb-true unused 0 (b .0), c .0, cc)
 
 three-pass : {X : Type 0} (kinds unused ranges : Bool) (x y : X) → kinds ≡ true → unused ≡ true → ranges ≡ true → x ≡ y → require kinds WrongKind (require unused UnusedBit (require ranges OutOfRange (Ok x))) ≡ Ok y
 three-pass kinds unused ranges x y a b c e =
@@ -47,48 +46,69 @@ GoodEntry states actions e = (e .state < states) × (e .action < actions) × (1 
 abbrev pub GoodOutcome : ℕ → Move → Type 0
 GoodOutcome states m = (m .target < states) × (1 ≤ m .weight) × (m .weight ≤ 8)
 
+-- the kind of a word that reads well, its unused bits, its ranges and its fields, which are what was read
+
+pub head-fields : (w : ℕ) (h : Head) → headOf w ≡ Ok h
+    → (kind w ≡ 1) × (field w 22 6 ≡ 0) × ((within 1 4096 (field w 0 13) && (leb (field w 13 5) 24 && within 1 8 (field w 18 4))) ≡ true) × (record { states = field w 0 13; labels = field w 13 5; actions = field w 18 4 } ≡ h)
+head-fields w h e = three-passed _ _ _ _ _ h e
+
+pub mask-fields : (labels w m : ℕ) → maskOf labels w ≡ Ok m → (kind w ≡ 2) × (field w 24 4 ≡ 0) × (ltb (field w 0 24) (2 ^ labels) ≡ true) × (field w 0 24 ≡ m)
+mask-fields labels w m e = three-passed _ _ _ _ _ m e
+
+pub reward-fields : (w : ℕ) (r : Worth) → rewardOf w ≡ Ok r → (kind w ≡ 3) × (field w 24 4 ≡ 0) × (leb (field w 0 12) 4000 ≡ true) × (record { raised = field w 0 12; origin = field w 12 12 } ≡ r)
+reward-fields w r e = three-passed _ _ _ _ _ r e
+
+pub entry-fields : (states actions w : ℕ) (x : Entry) → entryOf states actions w ≡ Ok x
+    → (kind w ≡ 4) × (field w 19 9 ≡ 0) × ((ltb (field w 0 12) states && (ltb (field w 12 3) actions && within 1 8 (field w 15 4))) ≡ true) × (record { state = field w 0 12; action = field w 12 3; outcomes = field w 15 4 } ≡ x)
+entry-fields states actions w x e = three-passed _ _ _ _ _ x e
+
+pub move-fields : (states w : ℕ) (m : Move) → moveOf states w ≡ Ok m → (kind w ≡ 5) × (field w 16 12 ≡ 0) × ((ltb (field w 0 12) states && within 1 8 (field w 12 4)) ≡ true) × (record { target = field w 0 12; weight = field w 12 4 } ≡ m)
+move-fields states w m e = three-passed _ _ _ _ _ m e
+
+-- it is the word that is written for what was read
+
 pub head-reads : (w : ℕ) (h : Head) → headOf w ≡ Ok h → (w ≡ headWord (h .states) (h .labels) (h .actions)) × GoodHead h
 head-reads w h e =
-    let p = three-passed (eqb (kind w) 1) (eqb (field w 22 6) 0) (within 1 4096 (field w 0 13) && (leb (field w 13 5) 24 && within 1 8 (field w 18 4))) (record { states = field w 0 13; labels = field w 13 5; actions = field w 18 4 }) h e in
+    let p = head-fields w h e in
     let t = and-parts (within 1 4096 (field w 0 13)) (leb (field w 13 5) 24 && within 1 8 (field w 18 4)) (p .2) in
     let u = and-parts (leb (field w 13 5) 24) (within 1 8 (field w 18 4)) (t .1) in
     let n = within-parts 1 4096 (field w 0 13) (t .0) in
     let l = leb-true (field w 13 5) 24 (u .0) in
     let k = within-parts 1 8 (field w 18 4) (u .1) in
     let is : w ≡ headWord (field w 0 13) (field w 13 5) (field w 18 4) =
-    omega (arith, eqb-true (kind w) 1 (p .0), eqb-true (field w 22 6) 0 (p .1), field-and-above w 0 13, field-and-above w 13 5, field-and-above w 18 4, field-and-above w 22 6) in
+    omega (arith, p .0, p .1, field-and-above w 0 13, field-and-above w 13 5, field-and-above w 18 4, field-and-above w 22 6) in
     subst (λ h. (w ≡ headWord (h .states) (h .labels) (h .actions)) × GoodHead h) (p .3) (is, (n .0, n .1, l, k .0, k .1))
 
 pub mask-reads : (labels w m : ℕ) → maskOf labels w ≡ Ok m → (w ≡ maskWord m) × (m < 2 ^ labels)
 mask-reads labels w m e =
-    let p = three-passed (eqb (kind w) 2) (eqb (field w 24 4) 0) (ltb (field w 0 24) (2 ^ labels)) (field w 0 24) m e in
-    let is : w ≡ maskWord (field w 0 24) = omega (arith, eqb-true (kind w) 2 (p .0), eqb-true (field w 24 4) 0 (p .1), field-and-above w 0 24, field-and-above w 24 4) in
+    let p = mask-fields labels w m e in
+    let is : w ≡ maskWord (field w 0 24) = omega (arith, p .0, p .1, field-and-above w 0 24, field-and-above w 24 4) in
     subst (λ m. (w ≡ maskWord m) × (m < 2 ^ labels)) (p .3) (is, ltb-true (field w 0 24) (2 ^ labels) (p .2))
 
 pub reward-reads : (w : ℕ) (r : Worth) → rewardOf w ≡ Ok r → (w ≡ rewardWord (r .raised) (r .origin)) × ((r .raised ≤ 4000) × (r .origin < 4096))
 reward-reads w r e =
-    let p = three-passed (eqb (kind w) 3) (eqb (field w 24 4) 0) (leb (field w 0 12) 4000) (record { raised = field w 0 12; origin = field w 12 12 }) r e in
-    let is : w ≡ rewardWord (field w 0 12) (field w 12 12) = omega (arith, eqb-true (kind w) 3 (p .0), eqb-true (field w 24 4) 0 (p .1), field-and-above w 0 12, field-and-above w 12 12, field-and-above w 24 4) in
+    let p = reward-fields w r e in
+    let is : w ≡ rewardWord (field w 0 12) (field w 12 12) = omega (arith, p .0, p .1, field-and-above w 0 12, field-and-above w 12 12, field-and-above w 24 4) in
     subst (λ r. (w ≡ rewardWord (r .raised) (r .origin)) × ((r .raised ≤ 4000) × (r .origin < 4096))) (p .3) (is, (leb-true (field w 0 12) 4000 (p .2), field-below w 12 12))
 
 pub entry-reads : (states actions w : ℕ) (x : Entry) → entryOf states actions w ≡ Ok x → (w ≡ entryWord (x .state) (x .action) (x .outcomes)) × GoodEntry states actions x
 entry-reads states actions w x e =
-    let p = three-passed (eqb (kind w) 4) (eqb (field w 19 9) 0) (ltb (field w 0 12) states && (ltb (field w 12 3) actions && within 1 8 (field w 15 4))) (record { state = field w 0 12; action = field w 12 3; outcomes = field w 15 4 }) x e in
+    let p = entry-fields states actions w x e in
     let t = and-parts (ltb (field w 0 12) states) (ltb (field w 12 3) actions && within 1 8 (field w 15 4)) (p .2) in
     let u = and-parts (ltb (field w 12 3) actions) (within 1 8 (field w 15 4)) (t .1) in
     let n = within-parts 1 8 (field w 15 4) (u .1) in
     let is : w ≡ entryWord (field w 0 12) (field w 12 3) (field w 15 4) =
-    omega (arith, eqb-true (kind w) 4 (p .0), eqb-true (field w 19 9) 0 (p .1), field-and-above w 0 12, field-and-above w 12 3, field-and-above w 15 4, field-and-above w 19 9) in
+    omega (arith, p .0, p .1, field-and-above w 0 12, field-and-above w 12 3, field-and-above w 15 4, field-and-above w 19 9) in
     subst (λ x. (w ≡ entryWord (x .state) (x .action) (x .outcomes)) × GoodEntry states actions x) (p .3)
     (is, (ltb-true (field w 0 12) states (t .0), ltb-true (field w 12 3) actions (u .0), n .0, n .1))
 
 pub move-reads : (states w : ℕ) (m : Move) → moveOf states w ≡ Ok m → (w ≡ moveWord m) × GoodOutcome states m
 move-reads states w m e =
-    let p = three-passed (eqb (kind w) 5) (eqb (field w 16 12) 0) (ltb (field w 0 12) states && within 1 8 (field w 12 4)) (record { target = field w 0 12; weight = field w 12 4 }) m e in
+    let p = move-fields states w m e in
     let t = and-parts (ltb (field w 0 12) states) (within 1 8 (field w 12 4)) (p .2) in
     let n = within-parts 1 8 (field w 12 4) (t .1) in
     let is : w ≡ moveWord (record { target = field w 0 12; weight = field w 12 4 }) =
-    omega (arith, eqb-true (kind w) 5 (p .0), eqb-true (field w 16 12) 0 (p .1), field-and-above w 0 12, field-and-above w 12 4, field-and-above w 16 12) in
+    omega (arith, p .0, p .1, field-and-above w 0 12, field-and-above w 12 4, field-and-above w 16 12) in
     subst (λ m. (w ≡ moveWord m) × GoodOutcome states m) (p .3) (is, (ltb-true (field w 0 12) states (t .0), n .0, n .1))
 
 pub head-written : (n l k : ℕ) → GoodHead (record { states = n; labels = l; actions = k }) → headOf (headWord n l k) ≡ Ok (record { states = n; labels = l; actions = k })

@@ -1,39 +1,37 @@
--- Reading the encoding of a valid site book gives that book back: its words lead through the format.
-use mathlib.Core.Bool.{Bool, true, false, cond, not, _&&_, _||_}
+-- Reading the encoding of a valid site book gives that book back: its words lead through the format. For others:
+-- `site-faithful`, the three laws of the layout.
+use mathlib.Core.Bool.{true, false, cond, not}
 use mathlib.Core.List.{List, [], _∷_, _++_, append-assoc, append-nil}
 use mathlib.Core.Path.{_≡_, refl, sym, ap, subst, _∙_}
-use mathlib.Core.Logic.{_⊎_, inl, inr}
 use Prim.Native.Nat.{ℕ, zero, suc, _+_, _-_, _*_, _/_, _%_, _^_, _<_, _≤_}
 use native.Mathlib.Nat.{mod-lt, zero-add}
 use native.Mathlib.Omega.{arith}
 use lib.Dec.{eqb, ltb, leb}
-use lib.ListN.{length, getD, replicate, length-append, length-replicate}
+use lib.ListN.{length, replicate, length-append}
 use lib.Pow.{pow-mono}
-use Rattle.std.specs.declared.option.Option.{Option}
 use Rattle.std.specs.declared.option.Option.the-variants.{Some, None}
-use Rattle.std.specs.declared.result.Result.{Result}
-use Rattle.std.specs.declared.result.Result.the-variants.{Ok, Err}
+use Rattle.std.specs.declared.result.Result.the-variants.{Ok}
 use Rattle.std.proofs.shelf.Bits.{div-add-mod', div-below, mul-le}
 use Rattle.std.proofs.shelf.Lists.{length-push, replicate-more}
-use Rattle.std.proofs.shelf.Tests.{and-parts, and-from, or-parts, or-from, eqb-false, ne-eqb, eqb-true, eq-eqb, ltb-true, lt-ltb, le-ltb, leb-true, le-leb, not-true, not-from-false}
-use Rattle.refusal.specs.declared.Refusal.{Refusal}
-use Rattle.refusal.specs.declared.Refusal.the-variants.{WrongTotal, NotRising, NoWait}
+use Rattle.std.proofs.shelf.Tests.{and-parts, or-parts, or-from, eqb-false, ne-eqb, eq-eqb, lt-ltb, le-ltb, le-leb, not-true, not-from-false}
+use Rattle.refusal.specs.declared.Refusal.the-variants.{WrongTotal, NotRising}
 use Rattle.words.specs.Words.{kind, endWord}
-use Rattle.words.specs.Format.{Step, more, ends, check, onto, Format, got, reading, file, ReadsBack, Faithful}
-use Rattle.words.specs.Tests.{all, within, none}
+use Rattle.words.specs.Format.{more, ends, onto, got, reading, file, ReadsBack, Faithful}
+use Rattle.words.specs.Tests.{all}
 use Rattle.words.proofs.Reading.{places-right}
 use Rattle.words.proofs.Encoding.{Passes, passes-append, reads-file, only-encodings}
 use Rattle.words.proofs.Fields.{kind-put}
-use Rattle.words.proofs.Tests.{check-passed, within-parts}
+use Rattle.words.proofs.Tests.{check-passed}
 use Rattle.sitelayout.specs.declared.Entry.{Entry}
 use Rattle.sitelayout.specs.declared.Head.{Head}
 use Rattle.sitelayout.specs.declared.Mark.{Mark}
 use Rattle.sitelayout.specs.declared.Move.{Move}
-use Rattle.sitelayout.specs.OneWord.{headWord, maskWord, rewardWord, entryWord, moveWord, headOf, maskOf, rewardOf, entryOf, moveOf}
+use Rattle.sitelayout.specs.OneWord.{headWord, maskWord, rewardWord, entryWord, moveWord, entryOf}
 use Rattle.sitelayout.specs.Site.{Site, taken, apart, total, goodMark, goodMove, goodCell, waits, valid}
-use Rattle.sitelayout.specs.Layout.{markWords, moveWords, cellWord, cellWords, siteWords, Draft, fresh, marking, listing, moving, placeOf, padded, marked, readEntry, moved, readMove, readWord, bookOf, wholeBook, siteFormat}
-use Rattle.sitelayout.proofs.OneWords.{GoodHead, GoodEntry, GoodOutcome, head-written, mask-written, reward-written, entry-written, move-written}
+use Rattle.sitelayout.specs.Layout.{markWords, moveWords, cellWord, cellWords, siteWords, fresh, marking, listing, moving, padded, marked, readEntry, moved, readMove, readWord, bookOf, wholeBook, siteFormat}
+use Rattle.sitelayout.proofs.OneWords.{GoodHead, head-written, mask-written, reward-written, entry-written, move-written}
 use Rattle.sitelayout.proofs.Account.{Good, written, word-kept, end-word, book-kept, choice}
+use Rattle.sitelayout.proofs.Valid.{move-parts, mark-parts, cell-good, Validly, validly}
 
 -- in a list without repeats a target is not among those before it
 free-before : (before : List Move) (m : Move) (rest : List Move) → apart (before ++ (m ∷ rest)) ≡ true → taken (m .target) before ≡ false
@@ -48,21 +46,15 @@ free-before (x ∷ before) m rest h =
     not-among [] m rest t h = ne-eqb (m .target) t (λ e. eqb-false t (m .target) (or-parts (eqb t (m .target)) (taken t rest) h .0) (sym e))
     not-among (y ∷ before) m rest t h = not-among before m rest t (or-parts (eqb t (y .target)) (taken t (before ++ (m ∷ rest))) h .1)
 
-good-outcome : (n : ℕ) (m : Move) → goodMove n m ≡ true → GoodOutcome n m
-good-outcome n m h =
-    let parts = and-parts (ltb (m .target) n) (within 1 8 (m .weight)) h in
-    let w = within-parts 1 8 (m .weight) (parts .1) in
-    (ltb-true (m .target) n (parts .0), w .0, w .1)
-
 module _ (h : Head) (g : GoodHead h) (ms : List Mark) where
   move-step : (cs : List (List Move)) (before : List Move) (due : ℕ) (m : Move) → goodMove (h .states) m ≡ true → taken (m .target) before ≡ false → readWord (moving h ms cs before due) (moveWord m) ≡ moved h ms cs (before ++ (m ∷ [])) due
   unfolding readWord
   move-step cs before due m one free =
-      ap (λ said. onto said (readMove h ms cs before due)) (move-written (h .states) m (g .1) (good-outcome (h .states) m one))
+      ap (λ said. onto said (readMove h ms cs before due)) (move-written (h .states) m (g .1) (move-parts (h .states) m one))
       ∙ check-passed (not (taken (m .target) before)) NotRising (moved h ms cs (before ++ (m ∷ [])) due) (not-from-false (taken (m .target) before) free)
 
   move-low : (m : Move) → goodMove (h .states) m ≡ true → moveWord m < 2 ^ 32
-  move-low m one = let o = good-outcome (h .states) m one in omega (arith, o .0, o .2, g .1)
+  move-low m one = let o = move-parts (h .states) m one in omega (arith, o .0, o .2, g .1)
 
   -- the outcomes of an entry lead to its end
   way-moves : (cs : List (List Move)) (before : List Move) (m : Move) (rest : List Move) → all (goodMove (h .states)) (m ∷ rest) ≡ true → apart (before ++ (m ∷ rest)) ≡ true → total (before ++ (m ∷ rest)) ≡ 8
@@ -94,10 +86,8 @@ module _ (h : Head) (g : GoodHead h) (ms : List Mark) where
       → Passes siteFormat (listing h ms cs) (cellWord (h .actions) k (m ∷ rest)) (listing h ms (padded k cs ++ ((m ∷ rest) ∷ [])))
   unfolding readWord
   way-cell k cs m rest behind inside cell =
-      let a = and-parts (leb (length (m ∷ rest)) 8) (all (goodMove (h .states)) (m ∷ rest) && (apart (m ∷ rest) && eqb (total (m ∷ rest)) 8)) cell in
-      let b = and-parts (all (goodMove (h .states)) (m ∷ rest)) (apart (m ∷ rest) && eqb (total (m ∷ rest)) 8) (a .1) in
-      let c = and-parts (apart (m ∷ rest)) (eqb (total (m ∷ rest)) 8) (b .1) in
-      let few = leb-true (length (m ∷ rest)) 8 (a .0) in
+      let good = cell-good (h .states) (m ∷ rest) cell in
+      let few = good .few in
       let acts : 0 < h .actions = g .3 in
       let col : k % h .actions < h .actions = mod-lt k acts in
       let row : k / h .actions < h .states = div-below k (h .actions) (h .states) acts inside in
@@ -114,35 +104,26 @@ module _ (h : Head) (g : GoodHead h) (ms : List Mark) where
               ∙ ap (λ s. onto s (readEntry h ms cs)) said
               ∙ check-passed (leb (length cs) (k / h .actions * h .actions + k % h .actions)) NotRising (more (moving h ms (padded (k / h .actions * h .actions + k % h .actions) cs) [] (length (m ∷ rest) - 1))) (le-leb (length cs) (k / h .actions * h .actions + k % h .actions) (omega (arith, whole, behind)))
               ∙ (λ i. more (moving h ms (padded (whole i) cs) [] (due i))),
-          (omega (arith, row, col, few, g .1, g .4), way-moves (padded k cs) [] m rest (b .0) (c .0) (eqb-true (total (m ∷ rest)) 8 (c .1))),
+          (omega (arith, row, col, few, g .1, g .4), way-moves (padded k cs) [] m rest (good .moves) (good .distinct) (good .whole refl)),
         ),
       )
 
 module _ (h : Head) (g : GoodHead h) where
-  abbrev GoodMarkIs : Mark → Type 0
-  GoodMarkIs m = (m .mask < 2 ^ h .labels) × (m .raised ≤ 4000) × (m .origin < 4096)
-
-  good-mark : (m : Mark) → goodMark (h .labels) m ≡ true → GoodMarkIs m
-  good-mark m e =
-      let a = and-parts (ltb (m .mask) (2 ^ h .labels)) (leb (m .raised) 4000 && ltb (m .origin) 4096) e in
-      let b = and-parts (leb (m .raised) 4000) (ltb (m .origin) 4096) (a .1) in
-      (ltb-true (m .mask) (2 ^ h .labels) (a .0), leb-true (m .raised) 4000 (b .0), ltb-true (m .origin) 4096 (b .1))
-
   mask-step : (before : List Mark) (m : Mark) → goodMark (h .labels) m ≡ true → readWord (marking h before None) (maskWord (m .mask)) ≡ more (marking h before (Some (m .mask)))
   unfolding readWord
-  mask-step before m e = ap (λ s. onto s (λ x. more (marking h before (Some x)))) (mask-written (h .labels) (m .mask) (good-mark m e .0) (g .2))
+  mask-step before m e = ap (λ s. onto s (λ x. more (marking h before (Some x)))) (mask-written (h .labels) (m .mask) (mark-parts (h .labels) m e .0) (g .2))
 
   reward-step : (before : List Mark) (m : Mark) → goodMark (h .labels) m ≡ true → readWord (marking h before (Some (m .mask))) (rewardWord (m .raised) (m .origin)) ≡ more (marked h (before ++ (m ∷ [])))
   unfolding readWord
   reward-step before m e =
-      ap (λ s. onto s (λ r. more (marked h (before ++ (record { mask = m .mask; raised = r .raised; origin = r .origin } ∷ []))))) (reward-written (m .raised) (m .origin) (good-mark m e .1) (good-mark m e .2))
+      ap (λ s. onto s (λ r. more (marked h (before ++ (record { mask = m .mask; raised = r .raised; origin = r .origin } ∷ []))))) (reward-written (m .raised) (m .origin) (mark-parts (h .labels) m e .1) (mark-parts (h .labels) m e .2))
 
   -- the states of a book lead to its entries
   way-marks : (before : List Mark) (m : Mark) (rest : List Mark) → all (goodMark (h .labels)) (m ∷ rest) ≡ true → length before + length (m ∷ rest) ≡ h .states
       → Passes siteFormat (marking h before None) (markWords (m ∷ rest)) (listing h (before ++ (m ∷ rest)) [])
   way-marks before m [] each long =
       let one = and-parts (goodMark (h .labels) m) true each .0 in
-      let is = good-mark m one in
+      let is = mark-parts (h .labels) m one in
       let top : 2 ^ h .labels ≤ 2 ^ 24 = pow-mono (g .2) in
       let all-read : ltb (length (before ++ (m ∷ []))) (h .states) ≡ false = le-ltb (length (before ++ (m ∷ []))) (h .states) (omega (arith, length-push before m)) in (
         marking h before (Some (m .mask)),
@@ -162,7 +143,7 @@ module _ (h : Head) (g : GoodHead h) where
       )
   way-marks before m (r ∷ rest) each long =
       let parts = and-parts (goodMark (h .labels) m) (all (goodMark (h .labels)) (r ∷ rest)) each in
-      let is = good-mark m (parts .0) in
+      let is = mark-parts (h .labels) m (parts .0) in
       let top : 2 ^ h .labels ≤ 2 ^ 24 = pow-mono (g .2) in
       let same : (before ++ (m ∷ [])) ++ (r ∷ rest) ≡ before ++ (m ∷ (r ∷ rest)) = append-assoc before (m ∷ []) (r ∷ rest) in
       let some-left : ltb (length (before ++ (m ∷ []))) (h .states) ≡ true = lt-ltb (length (before ++ (m ∷ []))) (h .states) (omega (arith, length-push before m)) in (
@@ -235,32 +216,8 @@ length-cells n a k [] each = omega arith
 length-cells n a k ([] ∷ cs) each = omega (arith, length-cells n a (k + 1) cs each)
 length-cells n a k ((m ∷ mv) ∷ cs) each =
     let parts = and-parts (goodCell n (m ∷ mv)) (all (goodCell n) cs) each in
-    let few = leb-true (length (m ∷ mv)) 8 (and-parts (leb (length (m ∷ mv)) 8) (all (goodMove n) (m ∷ mv) && (apart (m ∷ mv) && eqb (total (m ∷ mv)) 8)) (parts .0) .0) in
+    let few = cell-good n (m ∷ mv) (parts .0) .few in
     omega (arith, length-append (cellWord a k (m ∷ mv)) (cellWords a (k + 1) cs), length-moves mv, length-cells n a (k + 1) cs (parts .1))
-
--- what a valid book has, by name
-pub record Validly (b : Site) : Type 0 where
-  pub some : 1 ≤ length (b .marks)
-  pub many : length (b .marks) ≤ 4096
-  pub labels : b .labels ≤ 24
-  pub acts : 1 ≤ b .actions
-  pub few : b .actions ≤ 8
-  pub marks : all (goodMark (b .labels)) (b .marks) ≡ true
-  pub table : length (b .cells) ≡ length (b .marks) * b .actions
-  pub cells : all (goodCell (length (b .marks))) (b .cells) ≡ true
-  pub waiting : waits (b .actions) (length (b .marks)) (b .cells) ≡ true
-
-pub validly : (b : Site) → valid b ≡ true → Validly b
-validly b e =
-    let a = and-parts _ _ e in
-    let c = and-parts _ _ (a .1) in
-    let d = and-parts _ _ (c .1) in
-    let f = and-parts _ _ (d .1) in
-    let t = and-parts _ _ (f .1) in
-    let u = and-parts _ _ (t .1) in
-    let n = within-parts 1 4096 (length (b .marks)) (a .0) in
-    let k = within-parts 1 8 (b .actions) (d .0) in
-    record { some = n .0; many = n .1; labels = leb-true (b .labels) 24 (c .0); acts = k .0; few = k .1; marks = f .0; table = eqb-true (length (b .cells)) (length (b .marks) * b .actions) (t .0); cells = u .0; waiting = u .1 }
 
 end-step : (h : Head) (ms : List Mark) (cs : List (List Move)) (n : ℕ) → n < 2 ^ 28 → readWord (listing h ms cs) (endWord n) ≡ ends
 unfolding readWord
@@ -316,5 +273,5 @@ pub site-faithful : Faithful siteFormat (λ b. valid b ≡ true) siteWords
 site-faithful = record {
   places = places-right siteFormat;
   back = reads-back;
-  only = only-encodings siteFormat (λ b. valid b ≡ true) siteWords Good written word-kept end-word book-kept tt refl;
+  only = only-encodings siteFormat (λ b. valid b ≡ true) siteWords Good written (λ s t w low. word-kept s t w) (λ s w low good. end-word s w) book-kept tt refl;
 }

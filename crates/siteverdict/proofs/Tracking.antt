@@ -1,35 +1,34 @@
--- The state of the pass follows the book that is being read: what one word does to both.
+-- The state of the pass follows the book that is being read: what one word does to both. For others: `Tracks`, with
+-- `tracks-room`, `a-turn`, `track-close` and `nil-length`.
 use mathlib.Core.Bool.{Bool, true, false, cond, not, _&&_, _||_}
 use mathlib.Core.List.{List, [], _∷_, _++_, map}
 use mathlib.Core.Path.{_≡_, refl, sym, ap, subst, _∙_}
-use mathlib.Core.Logic.{_⊎_, inl, inr}
 use Prim.Native.Nat.{ℕ, zero, suc, _+_, _-_, _*_, _%_, _^_, _<_, _≤_, max}
 use native.Mathlib.Omega.{arith}
 use native.Mathlib.Nat.{lt-of-mul-lt-mul-right}
 use lib.Dec.{eqb, ltb, leb}
 use lib.ListN.{length, take, drop, getD, set, replicate}
-use Rattle.std.specs.declared.option.Option.{Option}
 use Rattle.std.specs.declared.option.Option.the-variants.{Some, None}
 use Rattle.std.specs.declared.result.Result.{Result}
 use Rattle.std.specs.declared.result.Result.the-variants.{Ok, Err}
-use Rattle.std.proofs.shelf.Tests.{cases-bool, and-parts, ltb-true, ltb-false, eqb-true, eqb-false, leb-true, eq-eqb, ne-eqb, false≢true, true≢false}
-use Rattle.std.proofs.shelf.Lists.{length-append, length-replicate, length-push, length-set, take-more-set, map-push, getD-push, getD-append-left}
+use Rattle.std.proofs.shelf.Tests.{ltb-true, ltb-false, eqb-true, eqb-false, leb-true, eq-eqb, ne-eqb, false≢true, true≢false}
+use Rattle.std.proofs.shelf.Lists.{length-push, length-set, take-more-set, map-push, getD-push, getD-append-left}
 use Rattle.std.proofs.shelf.Bits.{mul-add-lt, mul-le}
 use Rattle.refusal.specs.declared.Refusal.{Refusal}
-use Rattle.refusal.specs.declared.Refusal.the-variants.{WrongKind, UnusedBit, OutOfRange, WrongEnd, WrongTotal, NotRising, NoWait}
+use Rattle.refusal.specs.declared.Refusal.the-variants.{NoWait}
 use Rattle.refusal.specs.declared.Fault.{Fault}
-use Rattle.words.specs.Words.{field, kind, firstWord}
+use Rattle.words.specs.Words.{kind, firstWord}
 use Rattle.words.specs.Tests.{within, none}
-use Rattle.words.specs.Format.{Step, wrong, more, ends, check, require, onto, Verdict, got, stop, closing, ending, isNil, run}
-use Rattle.words.proofs.Reading.{after, run-word}
-use Rattle.words.proofs.Tests.{within-parts}
+use Rattle.words.specs.Format.{Step, wrong, more, ends, onto, Verdict, closing, ending, isNil, run}
+use Rattle.words.proofs.Reading.{after, turn as one-turn}
 use Rattle.sitelayout.specs.declared.Entry.{Entry}
-use Rattle.sitelayout.specs.declared.Head.{Head}
 use Rattle.sitelayout.specs.declared.Mark.{Mark}
 use Rattle.sitelayout.specs.declared.Move.{Move}
 use Rattle.sitelayout.specs.Site.{Site, taken, total, waits}
 use Rattle.sitelayout.specs.OneWord.{headOf, maskOf, rewardOf, entryOf, moveOf}
-use Rattle.sitelayout.specs.Layout.{Draft, fresh, marking, listing, moving, placeOf, padded, marked, readEntry, moved, readMove, readWord, bookOf, wholeBook, siteFormat}
+use Rattle.sitelayout.specs.Layout.{Draft, fresh, marking, listing, moving, padded, marked, readEntry, moved, readMove, readWord, bookOf, wholeBook, siteFormat}
+use Rattle.sitelayout.proofs.Account.{padded-length, total-push}
+use Rattle.sitelayout.proofs.OneWords.{GoodHead, head-reads, entry-reads, move-reads}
 use Rattle.siteverdict.specs.declared.state.Marks.{Marks}
 use Rattle.siteverdict.specs.declared.state.Open.{Open}
 use Rattle.siteverdict.specs.declared.state.State.{State}
@@ -40,24 +39,17 @@ use Rattle.siteverdict.specs.declared.state.Turn.{Turn}
 use Rattle.siteverdict.specs.declared.state.Turn.the-variants.{More, End, Wrong}
 use Rattle.siteverdict.specs.Counting.{size, boundOf, movesIn, has, Counted, Judges}
 use Rattle.siteverdict.specs.Steps.{told, markedOf, enteredTurn, closedOf, lastTurn, addedTurn, stepOf, closeOf, Room}
-use Rattle.siteverdict.proofs.Said.{head-says, entry-says, move-says}
 use Rattle.siteverdict.proofs.Waiting.{bound-push, moves-append, moves-filled, waits-append, waits-more, none-filled, waits-all}
 
-pub record HeadGood (h : Head) : Type 0 where
-  pub states : h .states ≤ 4096
-  pub some : 1 ≤ h .states
-  pub actions : h .actions ≤ 8
-  pub acts : 1 ≤ h .actions
-
 pub record MarksOf (m : Marks) (ms : List Mark) : Type 0 where
-  pub head : HeadGood (m .head)
+  pub head : GoodHead (m .head)
   pub read : length ms ≡ m .read
   pub few : m .read < m .head .states
   pub bound : boundOf ms ≡ m .bound
 
 -- `waiting`: the states below `waits` offer action 0, and the next does not where its place is filled
 pub record TableOf (t : Table) (ms : List Mark) (cs : List (List Move)) : Type 0 where
-  pub head : HeadGood (t .head)
+  pub head : GoodHead (t .head)
   pub read : length ms ≡ t .head .states
   pub bound : boundOf ms ≡ t .bound
   pub cells : length cs ≡ t .cells
@@ -87,8 +79,8 @@ Tracks (phase.Move o) d = (ms : List Mark) × ((cs : List (List Move)) × ((mv :
 
 table-room : (t : Table) (ms : List Mark) (cs : List (List Move)) → TableOf t ms cs → (t .head .states ≤ 4096) × (t .head .actions ≤ 8) × (t .cells ≤ 32768) × (t .moves ≤ 8 * t .cells) × (t .waits ≤ 4096)
 table-room t ms cs of =
-    let most = mul-le (t .head .states) (t .head .actions) 4096 8 (of .head .states) (of .head .actions) in
-    (of .head .states, of .head .actions, omega (arith, of .few, most), of .modest, omega (arith, of .within, of .head .states))
+    let most = mul-le (t .head .states) (t .head .actions) 4096 8 (of .head .1) (of .head .4) in
+    (of .head .1, of .head .4, omega (arith, of .few, most), of .modest, omega (arith, of .within, of .head .1))
 
 -- the numbers of a state that follows a draft leave room for one more
 pub tracks-room : (s : State) (d : Draft) → Tracks s d → Room s
@@ -96,7 +88,7 @@ tracks-room phase.Fresh d h = tt
 tracks-room (phase.Mask m) d h = tt
 tracks-room (phase.Reward m) d h =
     let of = h .1 .1 .1 in
-    omega (arith, of .few, of .head .states)
+    omega (arith, of .few, of .head .1)
 tracks-room (phase.Entry t) d h = table-room t (h .0) (h .1 .0) (h .1 .1 .1)
 tracks-room (phase.Move o) d h =
     let of = h .1 .1 .1 .1 in
@@ -123,11 +115,6 @@ meets-not true true x y d u v e h g = h refl
 meets-not true false x y d u v e h g = absurd (true≢false e)
 meets-not false true x y d u v e h g = absurd (false≢true e)
 meets-not false false x y d u v e h g = g refl
-
-head-good : (w : ℕ) (h : Head) → headOf w ≡ Ok h → HeadGood h
-head-good w h e =
-    let said = head-says w h e in
-    record { states = said .states; some = said .some; actions = said .actions; acts = said .acts }
 
 -- one state more
 tracks-cond : (b k : Bool) (x y : State) (d e : Draft) → b ≡ k → (b ≡ true → Tracks x d) → (b ≡ false → Tracks y e) → Tracks (cond b x y) (cond k d e)
@@ -168,14 +155,14 @@ track-mark m ms mark of =
 -- an entry is opened at its place
 track-entry : (t : Table) (ms : List Mark) (cs : List (List Move)) (e : Entry) (w : ℕ) → TableOf t ms cs → entryOf (t .head .states) (t .head .actions) w ≡ Ok e → (d : Draft) → Meets (enteredTurn t e) d (readEntry (t .head) ms cs e)
 track-entry t ms cs e w of is d =
-    let good = entry-says (t .head .states) (t .head .actions) w e is in
+    let good = entry-reads (t .head .states) (t .head .actions) w e is .1 in
     let place : ℕ = e .state * t .head .actions + e .action in
-    let low = mul-add-lt (e .state) (t .head .actions) (e .action) (t .head .states) (good .low) (good .act) in
+    let low = mul-add-lt (e .state) (t .head .actions) (e .action) (t .head .states) (good .0) (good .1) in
     meets-cond (leb (t .cells) place) (leb (length cs) place) _ _ d _ _
     (ap (λ n. leb n place) (sym (of .cells)))
     (λ up.
     let le : t .cells ≤ place = leb-true (t .cells) place up in
-    let long : length (cs ++ replicate (place - length cs) []) ≡ place = length-append cs (replicate (place - length cs) []) ∙ ap (λ n. length cs + n) (length-replicate (place - length cs) []) ∙ omega (arith, of .cells) in (
+    let long = padded-length place cs (omega (arith, of .cells)) in (
       moving (t .head) ms (padded place cs) [] (e .outcomes - 1),
       (
         refl,
@@ -203,7 +190,7 @@ track-entry t ms cs e w of is d =
                   room = omega arith;
                   eight = refl;
                   long = refl;
-                  left = omega (arith, good .few);
+                  left = omega (arith, good .3);
                   weighed = refl;
                   light = omega arith;
                   targets = refl;
@@ -242,7 +229,7 @@ module _ (t : Table) (ms : List Mark) (cs : List (List Move)) (c : List Move) (n
       let up : (t .waits + 1) * t .head .actions ≡ t .waits * t .head .actions + t .head .actions = omega arith in
       closed-table (t .waits + 1)
       (waits-more (t .head .actions) (t .waits) (cs ++ (c ∷ [])) (waits-append (t .head .actions) (t .waits) cs (c ∷ []) (of .waiting)) offered)
-      (λ h. absurd (omega (arith, h, up, same, length-push cs c, of .head .acts)))
+      (λ h. absurd (omega (arith, h, up, same, length-push cs c, of .head .3)))
       (let below : t .waits < t .head .states = lt-of-mul-lt-mul-right (t .head .actions) {m = t .waits} {n = t .head .states} (omega (arith, room, here)) in omega arith)
   closed-by false e =
       let other = eqb-false (t .cells) (t .waits * t .head .actions) e in
@@ -258,10 +245,6 @@ module _ (t : Table) (ms : List Mark) (cs : List (List Move)) (c : List Move) (n
   track-closed = closed-by (eqb (t .cells) (t .waits * t .head .actions)) refl
 
 -- one outcome more
-total-push : (mv : List Move) (m : Move) → total (mv ++ (m ∷ [])) ≡ total mv + m .weight
-total-push [] m = omega arith
-total-push (x ∷ mv) m = omega (arith, total-push mv m)
-
 has-taken : (t : ℕ) (mv : List Move) → has t (map (λ (m : Move). m .target) mv) ≡ taken t mv
 has-taken t [] = refl
 has-taken t (m ∷ mv) = ap (λ b. eqb t (m .target) || b) (has-taken t mv)
@@ -333,7 +316,7 @@ pub track-step : (s : State) (d : Draft) (w : ℕ) → Tracks s d → Meets (ste
 unfolding readWord
 track-step phase.Fresh d w h =
     subst (λ x. Meets (stepOf phase.Fresh w) x (readWord x w)) (sym h)
-    (meets-told (headOf w) fresh _ _ (λ x is. (marking x [] None, (refl, ([], (refl, record { head = head-good w x is; read = refl; few = head-good w x is .some; bound = refl }))))))
+    (meets-told (headOf w) fresh _ _ (λ x is. (marking x [] None, (refl, ([], (refl, record { head = head-reads w x is .1; read = refl; few = head-reads w x is .1 .0; bound = refl }))))))
 track-step (phase.Mask m) d w h =
     subst (λ x. Meets (stepOf (phase.Mask m) w) x (readWord x w)) (sym (h .1 .0))
     (meets-told (maskOf (m .head .labels) w) (marking (m .head) (h .0) None) _ _ (λ x is. (marking (m .head) (h .0) (Some x), (refl, (h .0, (x, (refl, h .1 .1)))))))
@@ -348,7 +331,7 @@ track-step (phase.Entry t) d w h =
     (λ _. meets-told (entryOf (t .head .states) (t .head .actions) w) (listing (t .head) (h .0) (h .1 .0)) _ _ (λ x is. track-entry t (h .0) (h .1 .0) x w (h .1 .1 .1) is (listing (t .head) (h .0) (h .1 .0)))))
 track-step (phase.Move o) d w h =
     subst (λ x. Meets (stepOf (phase.Move o) w) x (readWord x w)) (sym (h .1 .1 .1 .0))
-    (meets-told (moveOf (o .table .head .states) w) (moving (o .table .head) (h .0) (h .1 .0) (h .1 .1 .0) (o .due)) _ _ (λ x is. track-move o (h .0) (h .1 .0) (h .1 .1 .0) x (h .1 .1 .1 .1) (move-says (o .table .head .states) w x is .light) (moving (o .table .head) (h .0) (h .1 .0) (h .1 .1 .0) (o .due))))
+    (meets-told (moveOf (o .table .head .states) w) (moving (o .table .head) (h .0) (h .1 .0) (h .1 .1 .0) (o .due)) _ _ (λ x is. track-move o (h .0) (h .1 .0) (h .1 .1 .0) x (h .1 .1 .1 .1) (move-reads (o .table .head .states) w x is .1 .2) (moving (o .table .head) (h .0) (h .1 .0) (h .1 .1 .0) (o .due))))
 
 -- the end word
 judges-cond : (b : Bool) (x y : Result Counts Fault) (u v : Verdict Site) → Judges x u → Judges y v → Judges (cond b x y) (cond b u v)
@@ -377,10 +360,7 @@ track-close t d w p last h =
 
 -- a turn of the pass
 pub a-turn : (s : State) (d : Draft) (rest next : List ℕ) (p w : ℕ) (turn : Turn) → Tracks s d → 4 ≤ length rest → w ≡ firstWord rest → next ≡ drop 4 rest → turn ≡ stepOf s w → Meets turn d (readWord d w) × (run siteFormat d p rest ≡ after siteFormat d p w next (readWord d w))
-a-turn s d rest next p w turn h four word left is = (
-  subst (λ x. Meets x d (readWord d w)) (sym is) (track-step s d w h),
-  run-word siteFormat d p rest four ∙ ap (λ l. after siteFormat d p (firstWord rest) l (readWord d (firstWord rest))) (sym left) ∙ ap (λ x. after siteFormat d p x next (readWord d x)) (sym word),
-)
+a-turn s d rest next p w turn h four word left is = (subst (λ x. Meets x d (readWord d w)) (sym is) (track-step s d w h), one-turn siteFormat d p rest next w (readWord d w) (four, word, left) refl)
 
 pub nil-length : (bytes : List ℕ) → eqb (length bytes) 0 ≡ isNil bytes
 nil-length [] = refl

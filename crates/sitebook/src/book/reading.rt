@@ -1,10 +1,11 @@
 // Reading a site book: the verdict on the file first, and then the tables.
+ghost use mathlib.Core.Bool.{true};
 ghost use mathlib.Core.Path.{_≡_};
 ghost use Rattle.std.specs.Results.{Cases};
 ghost use Rattle.std.specs.Vec.{made};
-ghost use Rattle.words.specs.Format.{got, reading};
-ghost use Rattle.sitelayout.specs.Layout.{siteFormat};
-ghost use Rattle.sitelayout.specs.Site.{Site};
+ghost use Rattle.words.specs.Format.{Faithful, got, reading};
+ghost use Rattle.sitelayout.specs.Layout.{siteFormat, siteWords};
+ghost use Rattle.sitelayout.specs.Site.{Site, valid};
 ghost use Rattle.siteverdict.specs.Counting.{Counted};
 ghost use Rattle.sitebook.specs.Contents.{contents};
 ghost use Rattle.sitebook.specs.Reading.{Refused};
@@ -23,6 +24,7 @@ use words::next_word;
 // The book that a file is, or the first refusal and its place; Memory only where the file is a book.
 pub fn read_site(heap: Global, bytes: &[u8]) -> Result<SiteBook, Fault>
     ensures reads { λ r. ⌜ Cases r (λ b. reading siteFormat (now (bytes .entry)) ≡ got (contents b)) (λ f. Refused (reading siteFormat (now (bytes .entry))) f) ⌝ }
+    ensures faithful { λ _. ⌜ Faithful siteFormat (λ b. valid b ≡ true) siteWords ⌝ }
 {
     let counts = verdict(bytes)?;
     match stored(heap, bytes, counts) {

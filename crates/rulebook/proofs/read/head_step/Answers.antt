@@ -10,8 +10,8 @@ unfolding readWord
 returns-in-Ok c =
     ap (λ l. more (listing (headFrom (c .empty .result)) l)) (c .empty .ensures .1)
     ∙ ap (λ h. more (listing h [])) (c .empty .ensures .0)
-    ∙ ap (λ x. going x (λ h. more (listing h []))) (c .in-Ok .ensures tt .reads)
+    ∙ ap (λ x. going x (λ h. more (listing h []))) (c .in-Ok .ensures tt)
 
 pub returns-in-Err : need.returns-in-Err
 unfolding readWord
-returns-in-Err c = ap (λ x. going x (λ h. more (listing h []))) (c .in-Err .ensures tt .reads)
+returns-in-Err c = ap (λ x. going x (λ h. more (listing h []))) (c .in-Err .ensures tt)

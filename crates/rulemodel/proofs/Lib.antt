@@ -1,0 +1,4 @@
+pub mod Gathering
+pub mod RuleLaws
+pub mod Switches
+pub mod Turns
