@@ -1,4 +1,6 @@
 // Answers commands about books, one to a line: the protocol that outside cases are written in.
+mod lay;
+
 ghost use Prim.Native.Nat.{_<_};
 ghost use Rattle.std.specs.Options.{Cases};
 use model::SiteModel;
@@ -33,6 +35,9 @@ fn answer(heap: Global, line: &str) -> Result<String, AllocError> {
     let Some((command, hex)) = line.split_once(' ') else {
         return String::from_str(heap, "unknown");
     };
+    if command == "lay" {
+        return lay::answer(heap, hex);
+    }
     let Some(bytes) = unhex(heap, hex)? else {
         return String::from_str(heap, "unknown");
     };
@@ -93,7 +98,7 @@ fn site(heap: Global, bytes: &[u8]) -> Result<String, AllocError> {
 }
 
 // The bytes that hexadecimal digits stand for, two digits a byte; `-` is no byte at all.
-fn unhex(heap: Global, text: &str) -> Result<Option<Vec<u8>>, AllocError> {
+pub fn unhex(heap: Global, text: &str) -> Result<Option<Vec<u8>>, AllocError> {
     let digits = text.as_bytes();
     let mut bytes = Vec::new(heap);
     if text == "-" {

@@ -42,6 +42,7 @@ higher b m k =
     half-of : (b : Bool) (m : ℕ) → (bit b + 2 * m) / 2 ≡ m
     half-of true m = omega arith
     half-of false m = omega arith
+
     one-more : (k : ℕ) → suc k ≡ 1 + k
     one-more k = omega arith
 
@@ -71,6 +72,7 @@ memory-tells b ok τ (suc n) k l =
   where
     told : (i : ℕ) → i < length (b .nodes) → getD (truths (b .nodes) τ n) i false ≡ holds (getD (formulas (b .nodes)) i truth) τ n
     told i inside = getD-map (λ f. holds f τ n) (formulas (b .nodes)) i truth false (omega (arith, length-formulas (b .nodes)))
+
     item-said : (x : Item) → Has (itemsOver (b .nodes) (b .wishes)) x → said x (truths (b .nodes) τ n) ≡ tells (b .nodes) τ x n
     item-said (Held i) has = told i (selected (b .nodes) (resting (b .nodes) (map (λ w. w .node) (b .wishes))) .heldOnly i has .0)
     item-said (Failed i) has = ap not (told i (selected (b .nodes) (resting (b .nodes) (map (λ w. w .node) (b .wishes))) .failedOnly i has .0))
@@ -84,7 +86,7 @@ above : (labels low-part high k : ℕ) → low-part < 2 ^ labels → labelled (l
 above labels low-part high k small =
     ap (λ x. eqb (x % 2) 1)
     (sym (shr-shr (low-part + 2 ^ labels * high) labels k)
-     ∙ ap (λ x. x / 2 ^ k) (ap (λ x. x / 2 ^ labels) (add-comm low-part (2 ^ labels * high) ∙ ap (λ x. x + low-part) (mul-comm (2 ^ labels) high)) ∙ shr-high high labels low-part small))
+    ∙ ap (λ x. x / 2 ^ k) (ap (λ x. x / 2 ^ labels) (add-comm low-part (2 ^ labels * high) ∙ ap (λ x. x + low-part) (mul-comm (2 ^ labels) high)) ∙ shr-high high labels low-part small))
 
 pub wishes-show : WishesShow
 wishes-show b ok labels mask h k d small l =

@@ -1,4 +1,9 @@
 pub mod Recalling
 pub mod Verdicts
+pub mod Sizes
+pub mod Lawfulness
+pub mod Entering
+pub mod Counting
+pub mod Refusing
 pub mod Unfolds
 pub mod Bits

@@ -52,8 +52,8 @@ held-only : (items : List Item) (vs : List Bool) (i : ℕ) → heldIn items (mem
 held-only [] vs i h = absurd (both-ways false refl h)
 held-only (Held j ∷ items) vs i h =
     elim (or-cases (eqb i j && getD vs j false) (heldIn items (memoryOf items vs) i) (sym (held-step j items vs i) ∙ h)) [
-      inl e ↦ let parts = and-parts (eqb i j) (getD vs j false) e in ap (λ k. getD vs k false) (eqb-true i j (parts .0)) ∙ parts .1
-    | inr e ↦ held-only items vs i e
+      | inl e ↦ let parts = and-parts (eqb i j) (getD vs j false) e in ap (λ k. getD vs k false) (eqb-true i j (parts .0)) ∙ parts .1
+      | inr e ↦ held-only items vs i e
     ]
 held-only (Failed j ∷ items) vs i h = held-only items vs i (sym (held-pass j items vs i) ∙ h)
 
@@ -62,23 +62,23 @@ held-there [] vs i (k, l, at) e = absurd (omega arith)
 held-there (Held j ∷ items) vs i has e =
     held-step j items vs i ∙
     elim (first-or-later (Held j) items (Held i) has) [
-      inl same ↦
-        let is = held-is j i same in
-        or-left (eqb i j && getD vs j false) (heldIn items (memoryOf items vs) i) (and-from (eqb i j) (getD vs j false) (eq-eqb i j (sym is)) (ap (λ k. getD vs k false) is ∙ e))
-    | inr later ↦ or-right (eqb i j && getD vs j false) (heldIn items (memoryOf items vs) i) (held-there items vs i later e)
+      | inl same ↦
+          let is = held-is j i same in
+          or-left (eqb i j && getD vs j false) (heldIn items (memoryOf items vs) i) (and-from (eqb i j) (getD vs j false) (eq-eqb i j (sym is)) (ap (λ k. getD vs k false) is ∙ e))
+      | inr later ↦ or-right (eqb i j && getD vs j false) (heldIn items (memoryOf items vs) i) (held-there items vs i later e)
     ]
 held-there (Failed j ∷ items) vs i has e =
     elim (first-or-later (Failed j) items (Held i) has) [
-      inl same ↦ absurd (apart-items i j (sym same))
-    | inr later ↦ held-pass j items vs i ∙ held-there items vs i later e
+      | inl same ↦ absurd (apart-items i j (sym same))
+      | inr later ↦ held-pass j items vs i ∙ held-there items vs i later e
     ]
 
 failed-only : (items : List Item) (vs : List Bool) (i : ℕ) → failedIn items (memoryOf items vs) i ≡ true → getD vs i false ≡ false
 failed-only [] vs i h = absurd (both-ways false refl h)
 failed-only (Failed j ∷ items) vs i h =
     elim (or-cases (eqb i j && not (getD vs j false)) (failedIn items (memoryOf items vs) i) (sym (failed-step j items vs i) ∙ h)) [
-      inl e ↦ let parts = and-parts (eqb i j) (not (getD vs j false)) e in ap (λ k. getD vs k false) (eqb-true i j (parts .0)) ∙ not-true (getD vs j false) (parts .1)
-    | inr e ↦ failed-only items vs i e
+      | inl e ↦ let parts = and-parts (eqb i j) (not (getD vs j false)) e in ap (λ k. getD vs k false) (eqb-true i j (parts .0)) ∙ not-true (getD vs j false) (parts .1)
+      | inr e ↦ failed-only items vs i e
     ]
 failed-only (Held j ∷ items) vs i h = failed-only items vs i (sym (failed-pass j items vs i) ∙ h)
 
@@ -87,25 +87,25 @@ failed-there [] vs i (k, l, at) e = absurd (omega arith)
 failed-there (Failed j ∷ items) vs i has e =
     failed-step j items vs i ∙
     elim (first-or-later (Failed j) items (Failed i) has) [
-      inl same ↦
-        let is = failed-is j i same in
-        or-left (eqb i j && not (getD vs j false)) (failedIn items (memoryOf items vs) i) (and-from (eqb i j) (not (getD vs j false)) (eq-eqb i j (sym is)) (not-from-false (getD vs j false) (ap (λ k. getD vs k false) is ∙ e)))
-    | inr later ↦ or-right (eqb i j && not (getD vs j false)) (failedIn items (memoryOf items vs) i) (failed-there items vs i later e)
+      | inl same ↦
+          let is = failed-is j i same in
+          or-left (eqb i j && not (getD vs j false)) (failedIn items (memoryOf items vs) i) (and-from (eqb i j) (not (getD vs j false)) (eq-eqb i j (sym is)) (not-from-false (getD vs j false) (ap (λ k. getD vs k false) is ∙ e)))
+      | inr later ↦ or-right (eqb i j && not (getD vs j false)) (failedIn items (memoryOf items vs) i) (failed-there items vs i later e)
     ]
 failed-there (Held j ∷ items) vs i has e =
     elim (first-or-later (Held j) items (Failed i) has) [
-      inl same ↦ absurd (apart-items j i same)
-    | inr later ↦ failed-pass j items vs i ∙ failed-there items vs i later e
+      | inl same ↦ absurd (apart-items j i same)
+      | inr later ↦ failed-pass j items vs i ∙ failed-there items vs i later e
     ]
 
 -- the bit of a held item is the verdict on its node
 pub held-recalls : (items : List Item) (vs : List Bool) (i : ℕ) → Has items (Held i) → heldIn items (memoryOf items vs) i ≡ getD vs i false
 held-recalls items vs i has =
     elim (cases-bool (getD vs i false)) [
-      inl e ↦ held-there items vs i has e ∙ sym e
-    | inr e ↦ elim (cases-bool (heldIn items (memoryOf items vs) i)) [
-        inl t ↦ absurd (both-ways (getD vs i false) e (held-only items vs i t))
-      | inr t ↦ t ∙ sym e
+      | inl e ↦ held-there items vs i has e ∙ sym e
+      | inr e ↦ elim (cases-bool (heldIn items (memoryOf items vs) i)) [
+        | inl t ↦ absurd (both-ways (getD vs i false) e (held-only items vs i t))
+        | inr t ↦ t ∙ sym e
       ]
     ]
 
@@ -113,11 +113,11 @@ held-recalls items vs i has =
 pub failed-recalls : (items : List Item) (vs : List Bool) (i : ℕ) → Has items (Failed i) → failedIn items (memoryOf items vs) i ≡ not (getD vs i false)
 failed-recalls items vs i has =
     elim (cases-bool (getD vs i false)) [
-      inl e ↦ elim (cases-bool (failedIn items (memoryOf items vs) i)) [
-        inl t ↦ absurd (both-ways (getD vs i false) (failed-only items vs i t) e)
-      | inr t ↦ t ∙ ap not (sym e)
+      | inl e ↦ elim (cases-bool (failedIn items (memoryOf items vs) i)) [
+        | inl t ↦ absurd (both-ways (getD vs i false) (failed-only items vs i t) e)
+        | inr t ↦ t ∙ ap not (sym e)
       ]
-    | inr e ↦ failed-there items vs i has e ∙ ap not (sym e)
+      | inr e ↦ failed-there items vs i has e ∙ ap not (sym e)
     ]
 
 -- an empty memory recalls nothing

@@ -22,7 +22,7 @@ use Rattle.formula.specs.Formulas.{Formula, formulas, earlier}
 use Rattle.formula.specs.Items.{keptItems}
 use Rattle.formula.specs.Resting.{Rests, root, resting}
 use Rattle.formula.proofs.Marks.{exact}
-use Rattle.history.specs.Histories.{final, History, begun, onward, along, Unfolds}
+use Rattle.model.specs.Histories.{final, History, begun, onward, along, Unfolds}
 use Rattle.model.specs.declared.Outcome.{Outcome}
 use Rattle.model.specs.Models.{Model}
 use Rattle.truth.specs.Truth.{Trace, holds}
@@ -163,16 +163,16 @@ module _ (g m : Model) (code mask : List ℕ → ℕ) (reward : List ℕ → ℤ
     states = λ h hist. state-is h hist;
     sites = λ h hist. ap (λ b. cond b (m .ground (under (s h hist))) 0) (state-is h hist) ∙ ap (m .ground) (under-is h hist) ∙ u .sites h hist;
     masks = λ h hist.
-      ap (λ b. cond b (m .mask (under (s h hist)) + 2 ^ m .labels * wishBits ws (judged m book (s h hist))) 0) (state-is h hist)
-      ∙ (λ i. (ap (m .mask) (under-is h hist) ∙ u .masks h hist) i + 2 ^ m .labels * wish-bits-same ws (judged m book (s h hist)) (truths ns (traceOf mask h) (endOf h)) (wishes-right h hist) i);
+        ap (λ b. cond b (m .mask (under (s h hist)) + 2 ^ m .labels * wishBits ws (judged m book (s h hist))) 0) (state-is h hist)
+        ∙ (λ i. (ap (m .mask) (under-is h hist) ∙ u .masks h hist) i + 2 ^ m .labels * wish-bits-same ws (judged m book (s h hist)) (truths ns (traceOf mask h) (endOf h)) (wishes-right h hist) i);
     rewards = λ h hist.
-      ap (λ b. cond b (earned (m .reward (under (s h hist))) ws (judged m book (s h hist))) (pos 0)) (state-is h hist)
-      ∙ ap (λ r. earned r ws (judged m book (s h hist))) (ap (m .reward) (under-is h hist) ∙ u .rewards h hist)
-      ∙ earned-same (reward h) ws (judged m book (s h hist)) (truths ns (traceOf mask h) (endOf h)) (wishes-right h hist);
+        ap (λ b. cond b (earned (m .reward (under (s h hist))) ws (judged m book (s h hist))) (pos 0)) (state-is h hist)
+        ∙ ap (λ r. earned r ws (judged m book (s h hist))) (ap (m .reward) (under-is h hist) ∙ u .rewards h hist)
+        ∙ earned-same (reward h) ws (judged m book (s h hist)) (truths ns (traceOf mask h) (endOf h)) (wishes-right h hist);
     offers = λ h hist a. ap (λ b. b && m .offered (under (s h hist)) a) (state-is h hist) ∙ ap (λ k. m .offered k a) (under-is h hist) ∙ u .offers h hist a;
     moves = λ h hist a.
-      ap (λ b. cond b (map (lifted m book (s h hist)) (m .outcomes (under (s h hist)) a)) []) (state-is h hist)
-      ∙ ap (map (lifted m book (s h hist))) (ap (λ k. m .outcomes k a) (under-is h hist) ∙ u .moves h hist a)
-      ∙ map-map (lifted m book (s h hist)) (along code h) (g .outcomes (final h) a)
-      ∙ map-same (λ o. lifted m book (s h hist) (along code h o)) (along (codeOver code mask book) h) (g .outcomes (final h) a) (lifted-is h hist);
+        ap (λ b. cond b (map (lifted m book (s h hist)) (m .outcomes (under (s h hist)) a)) []) (state-is h hist)
+        ∙ ap (map (lifted m book (s h hist))) (ap (λ k. m .outcomes k a) (under-is h hist) ∙ u .moves h hist a)
+        ∙ map-map (lifted m book (s h hist)) (along code h) (g .outcomes (final h) a)
+        ∙ map-same (λ o. lifted m book (s h hist) (along code h o)) (along (codeOver code mask book) h) (g .outcomes (final h) a) (lifted-is h hist);
   }

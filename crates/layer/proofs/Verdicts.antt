@@ -143,13 +143,13 @@ module _ (ns : List Node) (roots : List ℕ) (ok : earlier ns ≡ true) (τ : Tr
     next-right : (node : Node) → getD ns here True ≡ node → here < length ns → Right n (known ++ (verdict (τ n) r here known node ∷ []))
     next-right node is l i below-end u =
         elim (cases-lt i here) [
-          inl less ↦ getD-append-left known (verdict (τ n) r here known node ∷ []) false i less ∙ right i less u
-        | inr past ↦
-            let same : here ≡ i = omega (arith, length-push known (verdict (τ n) r here known node)) in
-            subst (λ k. getD (known ++ (verdict (τ n) r here known node ∷ [])) k false ≡ true-at n k) same
-            (getD-push known (verdict (τ n) r here known node) false here refl
-             ∙ verdict-kind node is l (subst Used (sym same) u) (ap (operandsBelow here) (sym is) ∙ earlier-at ns here ok l)
-             ∙ ap (λ f. holds f τ n) (sym (formulas-at ns here ok l ∙ ap (treeOf (formulas ns)) is)))
+          | inl less ↦ getD-append-left known (verdict (τ n) r here known node ∷ []) false i less ∙ right i less u
+          | inr past ↦
+              let same : here ≡ i = omega (arith, length-push known (verdict (τ n) r here known node)) in
+              subst (λ k. getD (known ++ (verdict (τ n) r here known node ∷ [])) k false ≡ true-at n k) same
+              (getD-push known (verdict (τ n) r here known node) false here refl
+              ∙ verdict-kind node is l (subst Used (sym same) u) (ap (operandsBelow here) (sym is) ∙ earlier-at ns here ok l)
+              ∙ ap (λ f. holds f τ n) (sym (formulas-at ns here ok l ∙ ap (treeOf (formulas ns)) is)))
         ]
 
   verdicts-from-right : (n : ℕ) (r : Remembered) → Recalls n r → (front rest : List Node) (known : List Bool) → ns ≡ front ++ rest → length known ≡ length front → Right n known → Right n (verdictsFrom (τ n) r known rest)
@@ -181,9 +181,10 @@ module _ (ns : List Node) (roots : List ℕ) (ok : earlier ns ≡ true) (τ : Tr
   -- it tells the truth of one position earlier, and nothing at the start
   pub recalls-at : (n : ℕ) → Recalls n (recalled items (memory-at n))
   recalls-at zero = (λ i has. held-empty items i, λ i has. failed-empty items i)
-  recalls-at (suc n) =
-      (λ i has. held-recalls items (told n) i has ∙ told-at n i (selected ns (resting ns roots) .heldOnly i has .0),
-       λ i has. failed-recalls items (told n) i has ∙ ap not (told-at n i (selected ns (resting ns roots) .failedOnly i has .0)))
+  recalls-at (suc n) = (
+    λ i has. held-recalls items (told n) i has ∙ told-at n i (selected ns (resting ns roots) .heldOnly i has .0),
+    λ i has. failed-recalls items (told n) i has ∙ ap not (told-at n i (selected ns (resting ns roots) .failedOnly i has .0)),
+  )
 
   -- the memory worked out from right verdicts at position n is the next one
   pub memory-next : (n : ℕ) (vs : List Bool) → length vs ≡ length ns → Right n vs → memoryOf items vs ≡ memory-at (suc n)

@@ -1,10 +1,10 @@
 -- A layer lays one wish book on any model and is again a model. Its states are a state below and a memory, as one number:
 -- (state below) × 65,536 + memory. The memory of the state arrived at is worked out at the state left.
-use mathlib.Core.Bool.{Bool, true, false, cond, _&&_}
+use mathlib.Core.Bool.{Bool, true, cond, _&&_}
 use mathlib.Core.List.{List, [], _∷_, map}
 use Prim.Native.Nat.{ℕ, _+_, _*_, _/_, _%_, _^_}
 use lib.Dec.{ltb, leb}
-use lib.IntN.{ℤ, pos, natAbs}
+use lib.IntN.{pos, natAbs}
 use lib.ListN.{length}
 use Rattle.std.specs.declared.option.Option.{Option}
 use Rattle.std.specs.declared.option.Option.the-variants.{Some, None}
@@ -61,6 +61,10 @@ memory s = s % 65536
 
 abbrev pub isState : Model → Book → ℕ → Bool
 isState m b s = m .state (under s) && ltb (memory s) (2 ^ length (b .items))
+
+-- the verdicts on the nodes of a book, from a label mask and a memory
+abbrev pub verdictsIn : Book → ℕ → ℕ → List Bool
+verdictsIn b mask memory = verdicts mask (recalled (b .items) memory) (b .nodes)
 
 -- the verdicts on the nodes in a state
 abbrev pub judged : Model → Book → ℕ → List Bool

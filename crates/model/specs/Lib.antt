@@ -1,3 +1,4 @@
 pub mod Models
 pub mod Ways
 pub mod Idle
+pub mod Histories

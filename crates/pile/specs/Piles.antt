@@ -6,7 +6,7 @@ use Prim.Native.Nat.{ℕ}
 use lib.IntN.{ℤ}
 use Rattle.std.specs.declared.option.Option.{Option}
 use Rattle.std.specs.declared.option.Option.the-variants.{Some, None}
-use Rattle.history.specs.Histories.{final, Unfolds, OnePathAbove}
+use Rattle.model.specs.Histories.{final, Unfolds, OnePathAbove}
 use Rattle.model.specs.Models.{Model}
 use Rattle.wishbook.specs.Book.{Book}
 use Rattle.layer.specs.Layering.{fits, over}

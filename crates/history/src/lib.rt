@@ -1,4 +1,0 @@
-// Histories of models, as definitions and laws.
-fn nothing() -> u8 {
-    0
-}

@@ -1,0 +1,3 @@
+// Tests of the wish layer: records on which wrong readings of the truth lines show.
+#[cfg(test)]
+mod readings;
