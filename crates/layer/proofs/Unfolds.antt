@@ -34,6 +34,7 @@ use Rattle.words.specs.Tests.{all}
 use Rattle.layer.specs.Judging.{Remembered, recalled, verdict, verdictsFrom, verdicts, bit, memoryOf, wishBits, amount, earned}
 use Rattle.layer.specs.Layering.{under, memory, isState, judged, lifted, layered}
 use Rattle.layer.specs.Records.{traceOf, endOf, truths, memoryAt, codeOver, maskOver, rewardOver, SoundBook}
+use Rattle.layer.proofs.Sizes.{memory-below}
 use Rattle.layer.proofs.Verdicts.{Right, verdicts-right, memory-at, recalls-at, memory-next, told-at}
 
 some-history : (g : Model) (h : List ℕ) → History g h → 1 ≤ length h
@@ -57,15 +58,6 @@ map-map f k (x ∷ xs) = ap (λ l. f (k x) ∷ l) (map-map f k xs)
 
 truths-before : (ns : List Node) (mask : List ℕ → ℕ) (h : List ℕ) (t : ℕ) → 1 ≤ length h → truths ns (traceOf mask (h ++ (t ∷ []))) (endOf h) ≡ truths ns (traceOf mask h) (endOf h)
 truths-before ns mask h t some = map-same (λ f. holds f (traceOf mask (h ++ (t ∷ []))) (endOf h)) (λ f. holds f (traceOf mask h) (endOf h)) (formulas ns) (λ f. holds-local f (traceOf mask (h ++ (t ∷ []))) (traceOf mask h) (endOf h) (λ j le. trace-before mask h t j (omega arith)))
-
-bit-below : (b : Bool) → bit b ≤ 1
-bit-below true = omega arith
-bit-below false = omega arith
-
-pub memory-below : (items : List Item) (vs : List Bool) → memoryOf items vs < 2 ^ length items
-memory-below [] vs = omega arith
-memory-below (Held i ∷ items) vs = omega (arith, bit-below (getD vs i false), memory-below items vs, pow-suc 2 (length items))
-memory-below (Failed i ∷ items) vs = omega (arith, bit-below (not (getD vs i false)), memory-below items vs, pow-suc 2 (length items))
 
 verdicts-length : (mask : ℕ) (r : Remembered) (known : List Bool) (ns : List Node) → length (verdictsFrom mask r known ns) ≡ length known + length ns
 verdicts-length mask r known [] = omega arith
