@@ -1,4 +1,3 @@
 pub mod Site
 pub mod OneWord
 pub mod Layout
-pub mod Marked
