@@ -6,5 +6,9 @@ use Rattle.refusal.specs.declared.Refusal.the-variants.{Memory}
 use Rattle.words.specs.Format.{Verdict, got, stop}
 use Rattle.sitelayout.specs.Site.{Site}
 
+-- want of memory is about no word: its place is 0
+abbrev pub outOfMemory : Fault
+outOfMemory = record { refusal = Memory; place = 0 }
+
 abbrev pub Refused : Verdict Site → Fault → Type 0
-Refused v f = ((f .refusal ≡ Memory) × ((b : Site) × (v ≡ got b))) ⊎ (v ≡ stop (f .refusal) (f .place))
+Refused v f = ((f ≡ outOfMemory) × ((b : Site) × (v ≡ got b))) ⊎ (v ≡ stop (f .refusal) (f .place))
