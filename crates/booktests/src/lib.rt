@@ -1,4 +1,7 @@
 // Tests of the book readers: boundary files for each refusal that a reader gives.
+
+#![tactic(auto)]
+
 #[cfg(test)]
 mod files;
 #[cfg(test)]

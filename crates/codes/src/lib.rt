@@ -1,3 +1,5 @@
+#![tactic(auto)]
+
 ghost use Rattle.std.specs.Prelude.{◌≡◌, ℕ, ◌<◌, ◌≤◌, length, take, slice_index};
 ghost use Rattle.codes.specs.Chains.{bucket_of, latest};
 ghost use Rattle.register.specs.Keys.{Distinct};

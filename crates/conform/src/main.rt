@@ -1,4 +1,7 @@
 // Answers commands about books, one to a line: the protocol that outside cases are written in.
+
+#![tactic(auto)]
+
 mod lay;
 
 ghost use Rattle.std.specs.Prelude.{◌<◌, IfSome};

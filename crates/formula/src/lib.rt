@@ -1,3 +1,5 @@
+#![tactic(auto)]
+
 mod join;
 mod keep;
 mod keys;

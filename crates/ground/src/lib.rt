@@ -1,4 +1,7 @@
 // A site book or a rule book, whichever it is, as one ground model.
+
+#![tactic(auto)]
+
 mod answers;
 
 use rulebook::RuleBook;

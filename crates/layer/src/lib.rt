@@ -1,4 +1,7 @@
 // A wish book laid on any model.
+
+#![tactic(auto)]
+
 mod counts;
 mod fitting;
 mod judging;

@@ -1,3 +1,6 @@
 // Tests of the wish layer: records on which wrong readings of the truth lines show.
+
+#![tactic(auto)]
+
 #[cfg(test)]
 mod readings;

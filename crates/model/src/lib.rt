@@ -1,4 +1,7 @@
 // The interface of a site model: a Markov decision process with labels, its chances counted in eighths.
+
+#![tactic(auto)]
+
 ghost use Rattle.std.specs.Prelude.{◌≡◌, ℕ, ◌≤◌, true, IfSome, nat_lt};
 ghost use Rattle.model.specs.Models.{Model, Lawful, Ground, NumberedBy, target_at};
 ghost use Rattle.model.specs.Ways.{listed};

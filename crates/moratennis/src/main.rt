@@ -1,4 +1,7 @@
 // Moratennis: slot plans for strain-gauge loggers on railway bridges.
+
+#![tactic(auto)]
+
 mod check;
 mod crossing;
 mod show;

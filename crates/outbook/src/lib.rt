@@ -1,4 +1,7 @@
 // A site book that was written out, as a model whose site states are the origins that it carries.
+
+#![tactic(auto)]
+
 ghost use Rattle.std.specs.Prelude.{◌≡◌};
 ghost use Rattle.sitebook.specs.Contents.{contents};
 ghost use Rattle.writeout.specs.Copies.{by_origin};

@@ -1,4 +1,7 @@
 // Writes words, one after another, into a lent table of bytes.
+
+#![tactic(auto)]
+
 ghost use Rattle.std.specs.Prelude.{◌*◌, ◌≤◌, length};
 
 mod clean;

@@ -1,4 +1,7 @@
 // Piles: a ground model with wish layers on it, and what is promised of every one.
+
+#![tactic(auto)]
+
 mod build;
 mod floors;
 mod footing;

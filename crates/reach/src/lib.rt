@@ -1,4 +1,7 @@
 // Searching a model from its start: exactly the reachable states, each once, in the order of the search.
+
+#![tactic(auto)]
+
 ghost use Rattle.codes.specs.Listed.{listed, room_in};
 ghost use Rattle.model.specs.Histories.{targets_of};
 ghost use Rattle.model.specs.Ways.{listed as ways};

@@ -1,4 +1,7 @@
 // The refusals: each has a number and a sentence for people. Want of memory is one more case, with no number.
+
+#![tactic(auto)]
+
 ghost use Rattle.std.specs.Prelude.{◌≡◌};
 ghost use Rattle.refusal.specs.Numbers.{number as number_of, Apart, sentence as sentence_of};
 

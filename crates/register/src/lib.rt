@@ -1,3 +1,5 @@
+#![tactic(auto)]
+
 ghost use Rattle.std.specs.Prelude.{◌≡◌, ◌≤◌, Bool, length, take, nat_eq};
 ghost use Rattle.register.specs.Keys.{Decides, Distinct};
 ghost use Rattle.std.proofs.Common.{rules};

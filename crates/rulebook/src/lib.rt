@@ -1,4 +1,7 @@
 // Rule books, read from bytes into fixed tables, as ground models of a site.
+
+#![tactic(auto)]
+
 mod action;
 mod book;
 mod ground;

@@ -1,5 +1,8 @@
 // Rule books: switches, and actions whose outcomes set and clear them. This crate says what such a book is and how it is
 // written, and tests one word at a time.
+
+#![tactic(auto)]
+
 ghost use Rattle.std.specs.Prelude.{◌≡◌};
 ghost use Rattle.rulelayout.specs.Layout.{head_of, masks_of};
 

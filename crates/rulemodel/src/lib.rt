@@ -1,5 +1,8 @@
 // What a rule book means as a site model, and its answers: whether an action's needs are met, where an outcome lands, and the
 // outcomes of an action gathered by where they land.
+
+#![tactic(auto)]
+
 ghost use Rattle.std.specs.Prelude.{◌≡◌, ◌+◌, ◌<◌, ◌≤◌, length, set, nat_eq, slice_set};
 ghost use Rattle.model.specs.Ways.{listed};
 ghost use Rattle.register.specs.Keys.{place_of};

@@ -1,4 +1,7 @@
 // Site books as ground models: read whole, or refused at the first word that is wrong.
+
+#![tactic(auto)]
+
 mod book;
 mod store;
 

@@ -1,4 +1,7 @@
 // The words of site books: the states of a bridge with their labels and rewards, and what each action may lead to.
+
+#![tactic(auto)]
+
 ghost use Rattle.std.specs.Prelude.{◌≡◌};
 ghost use Rattle.sitelayout.specs.OneWord.{head_of, mask_of, reward_of, entry_of, move_of};
 

@@ -1,4 +1,7 @@
 // Whether a file is a site book: one pass over its words that stores nothing.
+
+#![tactic(auto)]
+
 ghost use Rattle.words.specs.Format.{reading};
 ghost use Rattle.sitelayout.specs.Layout.{site_format};
 ghost use Rattle.siteverdict.specs.Counting.{Judges};

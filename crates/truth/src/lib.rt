@@ -1,4 +1,7 @@
 // The truth of formulas about the past: definitions, laws, and what one mask shows.
+
+#![tactic(auto)]
+
 ghost use Rattle.std.specs.Prelude.{◌≡◌};
 ghost use Rattle.truth.specs.Truth.{labelled, PlainTruth};
 

@@ -1,4 +1,7 @@
 // How the values of an action's outcomes are joined into one, and what a reward counts in each slot.
+
+#![tactic(auto)]
+
 ghost use Rattle.std.specs.Prelude.{◌≡◌};
 ghost use Rattle.weighing.specs.Weighings.{LawfulWeigh, Weigh, held, mean, worst};
 ghost use Rattle.weighing.specs.Lawful.{mean_lawful, worst_lawful};

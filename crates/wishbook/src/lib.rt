@@ -1,4 +1,7 @@
 // Wish books: formulas about the past and what each is worth, read from their words.
+
+#![tactic(auto)]
+
 mod book;
 mod gather;
 mod gathered;

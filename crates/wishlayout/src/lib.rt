@@ -1,4 +1,7 @@
 // The words of wish books: formulas about the past, and what each is worth.
+
+#![tactic(auto)]
+
 ghost use Rattle.std.specs.Prelude.{◌≡◌};
 ghost use Rattle.wishlayout.specs.OneWord.{label_in, one_in, two_in, unary_of, binary_of, node_of, wish_of};
 

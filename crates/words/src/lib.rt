@@ -1,4 +1,7 @@
 // Words of a book: four bytes each, lowest first.
+
+#![tactic(auto)]
+
 ghost use Rattle.std.specs.Prelude.{◌≡◌, ℕ, ◌+◌, ◌*◌, ◌/◌, ◌%◌, ◌^◌, ◌<◌, ◌≤◌, ◌&&◌, length, drop, MatchOption, ◌==◌, nat_lt};
 ghost use Rattle.words.specs.Format.{is_nil};
 ghost use Rattle.words.specs.Words.{first_word, field as field_of};

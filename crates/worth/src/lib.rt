@@ -1,4 +1,7 @@
 // What plans and policies are worth.
+
+#![tactic(auto)]
+
 ghost use Rattle.std.specs.Prelude.{◌≡◌, ◌^◌, pos};
 ghost use Rattle.worth.specs.Unheld.{NothingHeldBack};
 

@@ -1,4 +1,7 @@
 // Writing a model out: exactly the reachable states, as a site book that reads back.
+
+#![tactic(auto)]
+
 mod cellwords;
 mod markwords;
 mod out;

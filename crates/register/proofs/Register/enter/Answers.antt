@@ -21,7 +21,7 @@ returns g c =
     let n = c.args.self.now.len in
     let l : n < length xs = omega arith in
     record {
-      answer = entered g.K.Key.equals c.args.key xs n l c.in-default.ensures;
+      answer = entered g.K.Key.equals c.args.key xs n l c.in_default.ensures;
       rest = drop-set-lt _ xs n c.args.key (omega arith);
       room = length-set xs n c.args.key;
       lent = refl;

@@ -37,7 +37,7 @@ returns-in-err-enter g c =
 pub loop-key-preserved : goal.loop-key-preserved
 loop-key-preserved g c =
     let inv = c.loop-key.invariant in
-    let told = c.in-ok-enter.ensures in
+    let told = c.in_ok-enter.ensures in
     let step =
     stepped g.K.Key.equals c.args.keys.now c.new-register.result.keys.now c.loop-key.register.keys.now c.enter.new.self.keys.now c.loop-key.register.len c.enter.new.self.len c.loop-key.key-index c.key-item.result
     c.loop-key.register.fits
