@@ -13,7 +13,7 @@ loop-way-init c = (refl, onto-self c.args.codes.now)
 pub loop-way-preserved : goal.loop-way-preserved
 loop-way-preserved c =
     let told = c.in-Some.ensures in
-    let os = c.as-slice-way-items.result.now in
+    let os = c.as_slice-way-items.result.now in
     let i = c.loop-way.way-index in
     let d : Outcome = record { target = 0; weight = 0 } in (
       added_more (listed c.args.codes.now) (listed c.loop-way.codes) (listed c.enter.new.self) (targets_of (take i os)) (get_or os i d).target c.loop-way.invariant.0 told.answer.1
@@ -23,14 +23,14 @@ loop-way-preserved c =
 
 pub returns-in-default : goal.returns-in-default
 returns-in-default c =
-    let told = c.in-default.ensures in
-    let os = c.as-slice-way-items.result.now in
+    let told = c.in_default.ensures in
+    let os = c.as_slice-way-items.result.now in
     let i = c.loop-way.way-index in
     let d : Outcome = record { target = 0; weight = 0 } in
     let onto = c.loop-way.invariant.1 in
     record {
       added = subst (λ l. room_in (length c.args.codes.now.table.now) < length (enter_all eqb (listed c.args.codes.now) l))
-          (sym (targets-split os i d c.loop-way-test.true) ∙ ap targets_of c.as-slice-way-items.ensures)
+          (sym (targets-split os i d c.loop-way-test.true) ∙ ap targets_of c.as_slice-way-items.ensures)
           (over-full (listed c.args.codes.now) (listed c.loop-way.codes) (targets_of (take i os)) (targets_of (drop (i + 1) os)) (get_or os i d).target (room_in (length c.args.codes.now.table.now)) c.loop-way.invariant.0 told.answer.0
           (told.answer.1 ∙ ap room_in onto.room));
       onto = onto_both c.args.codes.now c.loop-way.codes c.enter.new.self onto (onto_same c.loop-way.codes c.enter.new.self told.answer.2 told.rest told.room told.lent);
@@ -38,8 +38,8 @@ returns-in-default c =
 
 pub returns : goal.returns
 returns c =
-    let os = c.as-slice-way-items.result.now in
+    let os = c.as_slice-way-items.result.now in
     record {
-      added = c.loop-way.invariant.0 ∙ ap (λ l. enter_all eqb (listed c.args.codes.now) (targets_of l)) (take_all c.loop-way.way-index os c.loop-way-test.false ∙ c.as-slice-way-items.ensures);
+      added = c.loop-way.invariant.0 ∙ ap (λ l. enter_all eqb (listed c.args.codes.now) (targets_of l)) (take_all c.loop-way.way-index os c.loop-way-test.false ∙ c.as_slice-way-items.ensures);
       onto = c.loop-way.invariant.1;
     }

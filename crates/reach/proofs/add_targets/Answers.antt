@@ -9,10 +9,10 @@ use Rattle.reach.proofs.add_targets.Goals as goal
 pub loop-action-init : goal.loop-action-init
 loop-action-init g c = (refl, onto-self c.args.codes.now)
 
-pub returns-then-not-add-outcomes : goal.returns-then-not-add-outcomes
-returns-then-not-add-outcomes g c =
+pub returns-then-not-add_outcomes : goal.returns-then-not-add_outcomes
+returns-then-not-add_outcomes g c =
     let m = g.M.SiteModel.meaning c.args.m.now in
-    let told = c.if-not-add-outcomes.ensures in
+    let told = c.if-not-add_outcomes.ensures in
     let onto = c.loop-action.invariant.1 in
     record {
       added = over-action (listed c.args.codes.now) (listed c.loop-action.codes) m c.args.state c.loop-action.action (room_in (length c.args.codes.now.table.now))
@@ -20,19 +20,19 @@ returns-then-not-add-outcomes g c =
           c.loop-action.invariant.0
           (subst (λ n. room_in n < length (enter_all eqb (listed c.loop-action.codes) (targets_of (m.outcomes c.args.state c.loop-action.action)))) onto.room
           (subst (λ os. room_in (length c.loop-action.codes.table.now) < length (enter_all eqb (listed c.loop-action.codes) (targets_of os))) c.outcomes.ensures.outcomes told.added));
-      onto = onto_both c.args.codes.now c.loop-action.codes c.add-outcomes.new.codes onto told.onto;
+      onto = onto_both c.args.codes.now c.loop-action.codes c.add_outcomes.new.codes onto told.onto;
     }
 
 pub loop-action-preserved : goal.loop-action-preserved
 loop-action-preserved g c =
     let m = g.M.SiteModel.meaning c.args.m.now in
-    let told = c.if-not-add-outcomes.ensures in
+    let told = c.if-not-add_outcomes.ensures in
     let one : suc c.loop-action.action ≡ c.loop-action.action + 1 = omega arith in (
-      added-all (listed c.args.codes.now) (listed c.loop-action.codes) (listed c.add-outcomes.new.codes) (targets_below m c.args.state c.loop-action.action) (targets_of (m.outcomes c.args.state c.loop-action.action))
+      added-all (listed c.args.codes.now) (listed c.loop-action.codes) (listed c.add_outcomes.new.codes) (targets_below m c.args.state c.loop-action.action) (targets_of (m.outcomes c.args.state c.loop-action.action))
           c.loop-action.invariant.0
           (told.added ∙ ap (λ os. enter_all eqb (listed c.loop-action.codes) (targets_of os)) c.outcomes.ensures.outcomes)
           ∙ ap (λ n. enter_all eqb (listed c.args.codes.now) (targets_below m c.args.state n)) one,
-      onto_both c.args.codes.now c.loop-action.codes c.add-outcomes.new.codes c.loop-action.invariant.1 told.onto,
+      onto_both c.args.codes.now c.loop-action.codes c.add_outcomes.new.codes c.loop-action.invariant.1 told.onto,
     )
 
 pub returns : goal.returns

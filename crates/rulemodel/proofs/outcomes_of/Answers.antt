@@ -17,15 +17,15 @@ returns-then-effect-sum c =
       gathered = λ few light. absurd (omega arith);
     }
 
-pub add-weight-requires : goal.add-weight-requires
-add-weight-requires c =
+pub add_weight-requires : goal.add_weight-requires
+add_weight-requires c =
     let inv = c.loop-effect.invariant in
     record {
       within = omega arith;
       fits =
           omega (
             arith,
-            weight_below c.args.s c.args.effects.now c.loop-effect.effect-index c.loop-effect.ways c.loop-effect.len c.place-of-place.result
+            weight_below c.args.s c.args.effects.now c.loop-effect.effect-index c.loop-effect.ways c.loop-effect.len c.place_of-place.result
                 (record { target = 0; weight = 0 })
                 (omega arith)
                 inv.4
@@ -43,18 +43,18 @@ loop-effect-preserved c =
     let none : Effect = record { set = 0; clear = 0; weight = 0 } in
     let inv = c.loop-effect.invariant in
     let here = c.loop-effect-test.true in
-    let at = place_is ways n c.land-target.result (landing s (get_or es i none)) c.place-of-place.result c.place-of-place.ensures c.land-target.ensures.landing in
+    let at = place_is ways n c.land-target.result (landing s (get_or es i none)) c.place_of-place.result c.place_of-place.ensures c.land-target.ensures.landing in
     let more = total-more es i none here in
     elim c.if-place-len.branch [
       | then-place-len w ↦
-          let after = w.ways-is ∙ w.add-weight.ensures in (
-            ap length after ∙ length-set ways c.place-of-place.result _ ∙ inv.0,
+          let after = w.ways-is ∙ w.add_weight.ensures in (
+            ap length after ∙ length-set ways c.place_of-place.result _ ∙ inv.0,
             omega arith,
             omega arith,
             omega arith,
             ap (λ (m : ℕ). take m c.if-place-len.ways) w.len-is
                 ∙ ap (take n) after
-                ∙ grown s es i none here ways n (omega arith) inv.4 c.place-of-place.result at w.if-place-len.true,
+                ∙ grown s es i none here ways n (omega arith) inv.4 c.place_of-place.result at w.if-place-len.true,
           )
       | else-place-len w ↦ (
         ap length w.ways-is ∙ length-set ways n _ ∙ inv.0,
@@ -73,7 +73,7 @@ returns c =
     let es = c.args.effects.now in
     let inv = c.loop-effect.invariant in
     let i = c.loop-effect.effect-index in
-    let held = all_held s es i c.loop-effect.ways c.loop-effect.len _ inv.0 c.loop-effect-test.false inv.4 c.from-slice.ensures in
+    let held = all_held s es i c.loop-effect.ways c.loop-effect.len _ inv.0 c.loop-effect-test.false inv.4 c.from_slice.ensures in
     let light : total es ≤ 8 = omega (arith, ap total (take_all i es c.loop-effect-test.false)) in
     record {
       outcomes = held ∙ sym (all-light s es (omega arith) light);

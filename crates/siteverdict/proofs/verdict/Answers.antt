@@ -8,8 +8,8 @@ use Rattle.siteverdict.specs.Steps.{close_of}
 use Rattle.siteverdict.proofs.Tracking.{tracks_room, a_turn, track_close, nil-length}
 use Rattle.siteverdict.proofs.verdict.Goals as goal
 
-pub returns-in-default : goal.returns-in-default
-returns-in-default c = c.loop-word.invariant.1.1.1 ∙ run_short site_format c.loop-word.invariant.1.0 c.loop-word.place c.loop-word.rest.now c.in-default.ensures
+pub returns-in_default : goal.returns-in_default
+returns-in_default c = c.loop-word.invariant.1.1.1 ∙ run_short site_format c.loop-word.invariant.1.0 c.loop-word.place c.loop-word.rest.now c.in_default.ensures
 
 pub step-requires : goal.step-requires
 step-requires c = tracks_room c.loop-word.state c.loop-word.invariant.1.0 c.loop-word.invariant.1.1.0
@@ -22,10 +22,10 @@ returns-in-End c =
     let next = c.in-Some.next.now in
     let read = c.in-Some.ensures in
     let turn = a_turn c.loop-word.state d c.loop-word.rest.now next p w _ c.loop-word.invariant.1.1.0 read.0 read.1 read.2 c.in-End.ensures in
-    let whole = c.loop-word.invariant.1.1.1 ∙ turn.1 ∙ ap (after site_format d p w next) turn.0.0 ∙ ap (ending (whole_book d) p w) (sym (c.is-empty.ensures ∙ nil-length next)) in
+    let whole = c.loop-word.invariant.1.1.1 ∙ turn.1 ∙ ap (after site_format d p w next) turn.0.0 ∙ ap (ending (whole_book d) p w) (sym (c.is_empty.ensures ∙ nil-length next)) in
     subst (λ v. Judges c.close.result v) (sym whole)
-    (subst (λ r. Judges r (ending (whole_book d) p w c.is-empty.result)) (sym c.close.ensures)
-    (track_close c.in-End.table d w p c.is-empty.result turn.0.1))
+    (subst (λ r. Judges r (ending (whole_book d) p w c.is_empty.result)) (sym c.close.ensures)
+    (track_close c.in-End.table d w p c.is_empty.result turn.0.1))
 
 pub returns-in-Wrong : goal.returns-in-Wrong
 returns-in-Wrong c =

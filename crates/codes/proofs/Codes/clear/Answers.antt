@@ -4,8 +4,8 @@ use Rattle.std.proofs.lemmas.List.{get_or-replicate}
 use Rattle.codes.proofs.Latest.{latest-none}
 use Rattle.codes.proofs.Codes.clear.Goals as goal
 
-pub invariant-of-self : goal.invariant-of-self
-invariant-of-self c = (
+pub invariant_of-self : goal.invariant_of-self
+invariant_of-self c = (
   (refl, c.args.self.now.sizes.1),
   (
     omega arith,

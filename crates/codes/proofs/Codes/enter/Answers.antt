@@ -20,7 +20,7 @@ invariant-of-self c =
         (
           omega arith,
           (
-            written-distinct eqb eqb_decides code xs n l c.in-default.ensures self.apart,
+            written-distinct eqb eqb_decides code xs n l c.in_default.ensures self.apart,
             (
               heads_written xs self.heads n code l self.sizes.0 self.last,
               (links_written xs self.heads self.earlier n code l l' self.last self.linked, tt),
@@ -38,7 +38,7 @@ returns c =
     let n = self.len in
     let l : n < length xs = omega arith in
     record {
-      answer = entered eqb code xs n l c.in-default.ensures;
+      answer = entered eqb code xs n l c.in_default.ensures;
       rest = drop-set-lt _ xs n _ (omega arith);
       room = length-set xs n _;
       lent = refl;

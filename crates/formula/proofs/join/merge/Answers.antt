@@ -13,10 +13,10 @@ pub loop-i-init : goal.loop-i-init
 loop-i-init c =
     (reached_none c.args.words.now c.new-register.result.keys.now c.new-register.result.len c.args.numbers.now c.new-register.ensures.empty, refl)
 
-pub returns-in-err-place : goal.returns-in-err-place
-returns-in-err-place c =
+pub returns-in_err-place : goal.returns-in_err-place
+returns-in_err-place c =
     let inv = c.loop-i.invariant in
-    let told = c.in-err-place.ensures in
+    let told = c.in_err-place.ensures in
     record {
       answer =
           overfull c.args.words.now c.new-register.result.keys.now c.loop-i.register.keys.now c.loop-i.register.len c.args.numbers.now c.loop-i.numbers c.loop-i.i
@@ -46,8 +46,8 @@ returns-in-err-place c =
       faithful = faithful c.args.words.now;
     }
 
-pub overflow-cast-numbers : goal.overflow-cast-numbers
-overflow-cast-numbers c =
+pub overflow_cast-numbers : goal.overflow_cast-numbers
+overflow_cast-numbers c =
     let inv = c.loop-i.invariant in
     let small =
     place-small c.args.words.now c.new-register.result.keys.now c.loop-i.register.keys.now c.loop-i.register.len c.args.numbers.now c.loop-i.numbers c.loop-i.i
@@ -60,14 +60,14 @@ overflow-cast-numbers c =
     _
     (omega arith)
     c.renumber-node.ensures
-    c.in-ok-place.place
-    c.in-ok-place.ensures.answer.0 in
+    c.in_ok-place.place
+    c.in_ok-place.ensures.answer.0 in
     omega (arith, small, c.if-words-gt128.false, c.loop-i-test.true)
 
 pub loop-i-preserved : goal.loop-i-preserved
 loop-i-preserved c =
     let inv = c.loop-i.invariant in
-    let told = c.in-ok-place.ensures in (
+    let told = c.in_ok-place.ensures in (
       reached_more c.args.words.now c.new-register.result.keys.now c.loop-i.register.keys.now c.loop-i.register.len c.args.numbers.now c.loop-i.numbers c.loop-i.i
           inv.0
           c.loop-i.register.fits
@@ -80,7 +80,7 @@ loop-i-preserved c =
           c.renumber-node.ensures
           c.enter.new.self.keys.now
           c.enter.new.self.len
-          c.in-ok-place.place
+          c.in_ok-place.place
           c.enter.new.self.fits
           told.answer.0
           told.answer.1

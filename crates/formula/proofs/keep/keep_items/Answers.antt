@@ -7,16 +7,16 @@ use Rattle.formula.proofs.keep.keep_items.Goals as goal
 pub returns-then-nodes-gt128 : goal.returns-then-nodes-gt128
 returns-then-nodes-gt128 c = record { answer = inl (c.if-nodes-gt128.true, refl); selected = selected c.args.nodes.now c.args.marks.now }
 
-pub returns-in-err-len : goal.returns-in-err-len
-returns-in-err-len c =
-    let back = c.looked-back-back.ensures c.loop-i.i (omega arith) in
+pub returns-in_err-len : goal.returns-in_err-len
+returns-in_err-len c =
+    let back = c.looked_back-back.ensures c.loop-i.i (omega arith) in
     record {
       answer =
-          refused-held c.args.nodes.now c.args.marks.now c.loop-i.i _ c.loop-i-test.true c.marked-used.result _ c.keeps-held-held.result c.keeps-failed-failed.result
+          refused-held c.args.nodes.now c.args.marks.now c.loop-i.i _ c.loop-i-test.true c.marked-used.result _ c.keeps_held-held.result c.keeps_failed-failed.result
           c.marked-used.ensures
           back
-          c.keeps-held-held.ensures
-          c.keeps-failed-failed.ensures
+          c.keeps_held-held.ensures
+          c.keeps_failed-failed.ensures
           c.args.items.now
           c.loop-i.items
           c.put.new.items
@@ -24,54 +24,54 @@ returns-in-err-len c =
           c.from-residual.result
           c.if-nodes-gt128.false
           c.loop-i.invariant
-          c.in-err-len.ensures
+          c.in_err-len.ensures
           c.from-residual.ensures;
       selected = selected c.args.nodes.now c.args.marks.now;
     }
 
-pub returns-in-err-len-2 : goal.returns-in-err-len-2
-returns-in-err-len-2 c =
-    let back = c.looked-back-back.ensures c.loop-i.i (omega arith) in
+pub returns-in_err-len-2 : goal.returns-in_err-len-2
+returns-in_err-len-2 c =
+    let back = c.looked_back-back.ensures c.loop-i.i (omega arith) in
     let first =
-    put-more c.args.items.now c.loop-i.items c.put.new.items (items_below c.args.nodes.now c.args.marks.now c.loop-i.i) _ c.loop-i.len c.in-ok-len.len
+    put-more c.args.items.now c.loop-i.items c.put.new.items (items_below c.args.nodes.now c.args.marks.now c.loop-i.i) _ c.loop-i.len c.in_ok-len.len
     c.loop-i.invariant
-    c.in-ok-len.ensures
+    c.in_ok-len.ensures
     c.put.auto.items in
     record {
       answer =
-          refused-failed c.args.nodes.now c.args.marks.now c.loop-i.i _ c.loop-i-test.true c.marked-used.result _ c.keeps-held-held.result c.keeps-failed-failed.result
+          refused-failed c.args.nodes.now c.args.marks.now c.loop-i.i _ c.loop-i-test.true c.marked-used.result _ c.keeps_held-held.result c.keeps_failed-failed.result
           c.marked-used.ensures
           back
-          c.keeps-held-held.ensures
-          c.keeps-failed-failed.ensures
+          c.keeps_held-held.ensures
+          c.keeps_failed-failed.ensures
           c.args.items.now
           c.put.new.items
           c.put-in-loop-i.new.items
-          c.in-ok-len.len
-          c.from-residual-in-err-len-2.result
+          c.in_ok-len.len
+          c.from-residual-in_err-len-2.result
           c.if-nodes-gt128.false
           first
-          c.in-err-len-2.ensures
-          c.from-residual-in-err-len-2.ensures;
+          c.in_err-len-2.ensures
+          c.from-residual-in_err-len-2.ensures;
       selected = selected c.args.nodes.now c.args.marks.now;
     }
 
 pub loop-i-preserved : goal.loop-i-preserved
 loop-i-preserved c =
     let first =
-    put-more c.args.items.now c.loop-i.items c.put.new.items (items_below c.args.nodes.now c.args.marks.now c.loop-i.i) _ c.loop-i.len c.in-ok-len.len
+    put-more c.args.items.now c.loop-i.items c.put.new.items (items_below c.args.nodes.now c.args.marks.now c.loop-i.i) _ c.loop-i.len c.in_ok-len.len
     c.loop-i.invariant
-    c.in-ok-len.ensures
+    c.in_ok-len.ensures
     c.put.auto.items in
     let second =
-    put-more c.args.items.now c.put.new.items c.put-in-loop-i.new.items _ _ c.in-ok-len.len c.in-ok-len-2.len
+    put-more c.args.items.now c.put.new.items c.put-in-loop-i.new.items _ _ c.in_ok-len.len c.in_ok-len-2.len
     first
-    c.in-ok-len-2.ensures
+    c.in_ok-len-2.ensures
     c.put-in-loop-i.auto.items in
-    let back = c.looked-back-back.ensures c.loop-i.i (omega arith) in
-    subst (Filled c.args.items.now c.put-in-loop-i.new.items c.in-ok-len-2.len)
-    (next c.args.nodes.now c.args.marks.now c.loop-i.i _ c.loop-i-test.true c.marked-used.result _ c.keeps-held-held.result c.keeps-failed-failed.result
-    c.marked-used.ensures back c.keeps-held-held.ensures c.keeps-failed-failed.ensures)
+    let back = c.looked_back-back.ensures c.loop-i.i (omega arith) in
+    subst (Filled c.args.items.now c.put-in-loop-i.new.items c.in_ok-len-2.len)
+    (next c.args.nodes.now c.args.marks.now c.loop-i.i _ c.loop-i-test.true c.marked-used.result _ c.keeps_held-held.result c.keeps_failed-failed.result
+    c.marked-used.ensures back c.keeps_held-held.ensures c.keeps_failed-failed.ensures)
     second
 
 pub returns : goal.returns

@@ -9,10 +9,10 @@ loop-i-init c = (refl, λ k l. get_or-replicate 128 k false false l)
 pub loop-i-preserved : goal.loop-i-preserved
 loop-i-preserved c = (
   omega arith,
-  back_more c.args.nodes.now c.args.marks.now c.loop-i.back c.look-back.new.back c.marked.result c.loop-i.i _
+  back_more c.args.nodes.now c.args.marks.now c.loop-i.back c.look_back.new.back c.marked.result c.loop-i.i _
       c.loop-i-test.true
       c.loop-i.invariant.0
       c.loop-i.invariant.1
       c.marked.ensures
-      c.look-back.ensures,
+      c.look_back.ensures,
 )

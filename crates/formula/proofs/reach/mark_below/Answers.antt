@@ -6,11 +6,11 @@ use Rattle.formula.proofs.reach.mark_below.Goals.{else-i-marks-via-then-i-marks+
 
 pub loop-i-preserved-then-marks-i : goal.loop-i-preserved-then-marks-i
 loop-i-preserved-then-marks-i c =
-    spread-marked c.args.nodes.now c.loop-i.marks c.mark-operands.new.marks c.loop-i.i _
+    spread-marked c.args.nodes.now c.loop-i.marks c.mark_operands.new.marks c.loop-i.i _
     c.loop-i-test.true
     c.loop-i.auto.i
     c.if-marks-i.true
-    c.mark-operands.ensures
+    c.mark_operands.ensures
     ∙ c.loop-i.invariant
 
 pub loop-i-preserved : goal.loop-i-preserved

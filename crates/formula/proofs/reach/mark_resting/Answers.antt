@@ -10,11 +10,11 @@ pub returns : goal.returns
 returns c = record {
   marked = (
     c.if-n-gt128.false,
-    rested c.args.nodes.now c.args.roots.now c.mark-all.new.marks c.mark-below.new.marks (length c.args.nodes.now - 0)
+    rested c.args.nodes.now c.args.roots.now c.mark_all.new.marks c.mark_below.new.marks (length c.args.nodes.now - 0)
         c.if-n-gt128.false
         (omega arith)
-        c.mark-all.ensures
-        c.mark-below.ensures,
+        c.mark_all.ensures
+        c.mark_below.ensures,
   );
   exact = exact c.args.nodes.now c.args.roots.now;
 }

@@ -8,16 +8,16 @@ pub overflow-add-total : goal.overflow-add-total
 overflow-add-total c =
     let b = c.args.book.now in
     let few : length c.wishes-wish-items.result.now ≤ 16 = omega (arith, ap length c.wishes-wish-items.ensures, take_few b.wished b.wishes b.listed.1) in
-    omega (arith, c.loop-wish.invariant.1, c.amount-size-total.ensures.small)
+    omega (arith, c.loop-wish.invariant.1, c.amount_size-total.ensures.small)
 
 pub loop-wish-preserved : goal.loop-wish-preserved
 loop-wish-preserved c =
     let wishes = c.wishes-wish-items.result.now in
     let i = c.loop-wish.wish-index in (
-      ap (λ n. c.loop-wish.total + n + amounts (drop (i + 1) wishes)) c.amount-size-total.ensures.value
+      ap (λ n. c.loop-wish.total + n + amounts (drop (i + 1) wishes)) c.amount_size-total.ensures.value
           ∙ amounts-more wishes c.loop-wish.total i _ c.loop-wish-test.true
           ∙ c.loop-wish.invariant.0,
-      omega (arith, c.loop-wish.invariant.1, c.amount-size-total.ensures.small),
+      omega (arith, c.loop-wish.invariant.1, c.amount_size-total.ensures.small),
     )
 
 pub loop-wish-init : goal.loop-wish-init

@@ -16,9 +16,9 @@ pub loop-i-preserved : goal.loop-i-preserved
 loop-i-preserved c =
     let items = c.items-items.result.now in
     let vs = c.args.truths.now in
-    c.with-bit-memory.ensures
-    ∙ ap (λ n. bit c.item-holds.result + 2 * n) c.loop-i.invariant
-    ∙ ap (λ b. bit b + 2 * memory_of (drop c.loop-i.i items) vs) c.item-holds.ensures
+    c.with_bit-memory.ensures
+    ∙ ap (λ n. bit c.item_holds.result + 2 * n) c.loop-i.invariant
+    ∙ ap (λ b. bit b + 2 * memory_of (drop c.loop-i.i items) vs) c.item_holds.ensures
     ∙ memory-more items vs c.loop-i.i _ c.loop-i-test.true c.loop-i.auto.i
 
 pub loop-i-init : goal.loop-i-init

@@ -23,7 +23,7 @@ pub loop-i-preserved : goal.loop-i-preserved
 loop-i-preserved c =
     let wishes = c.wishes-wishes.result.now in
     let vs = c.args.truths.now in
-    c.with-bit-bits.ensures
+    c.with_bit-bits.ensures
     ∙ ap (λ n. bit c.at.result + 2 * n) c.loop-i.invariant
     ∙ ap (λ b. bit b + 2 * bits_of_wishes (drop c.loop-i.i wishes) vs) c.at.ensures
     ∙ wish_bits_more wishes vs c.loop-i.i _ c.loop-i-test.true c.loop-i.auto.i

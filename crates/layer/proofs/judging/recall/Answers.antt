@@ -9,11 +9,11 @@ loop-item-preserved c =
     let n = c.loop-item.item-index in
     let left = c.loop-item.left in (
       λ i h.
-          ap (λ t. get_or t i false || held_in (drop (n + 1) items) (left / 2) i) c.recall-one.ensures.held
+          ap (λ t. get_or t i false || held_in (drop (n + 1) items) (left / 2) i) c.recall_one.ensures.held
           ∙ held_more items n left c.loop-item.held i _ c.loop-item-test.true (omega (arith, c.loop-item.auto.held))
           ∙ c.loop-item.invariant.0 i h,
       λ i h.
-          ap (λ t. get_or t i false || failed_in (drop (n + 1) items) (left / 2) i) c.recall-one.ensures.failed
+          ap (λ t. get_or t i false || failed_in (drop (n + 1) items) (left / 2) i) c.recall_one.ensures.failed
           ∙ failed-more items n left c.loop-item.failed i _ c.loop-item-test.true (omega (arith, c.loop-item.auto.failed))
           ∙ c.loop-item.invariant.1 i h,
     )

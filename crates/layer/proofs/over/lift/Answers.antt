@@ -16,12 +16,12 @@ one_more memory ways os i d here few same =
 
 pub loop-way-preserved : goal.loop-way-preserved
 loop-way-preserved c =
-    let ways = c.as-slice-way-items.result.now in
+    let ways = c.as_slice-way-items.result.now in
     let o = c.args.ways.now in
-    let few : length ways ≤ 8 = omega (arith, ap length c.as-slice-way-items.ensures, length-take o.len o.ways, o.ok.1) in
+    let few : length ways ≤ 8 = omega (arith, ap length c.as_slice-way-items.ensures, length-take o.len o.ways, o.ok.1) in
     c.push.ensures.after ∙ one_more c.args.memory ways (listed c.loop-way.all) c.loop-way.way-index (record { target = 0; weight = 0 }) c.loop-way-test.true few c.loop-way.invariant
 
 pub returns : goal.returns
 returns c =
     c.loop-way.invariant
-    ∙ ap (map (moved c.args.memory)) (take_all c.loop-way.way-index c.as-slice-way-items.result.now c.loop-way-test.false ∙ c.as-slice-way-items.ensures)
+    ∙ ap (map (moved c.args.memory)) (take_all c.loop-way.way-index c.as_slice-way-items.result.now c.loop-way-test.false ∙ c.as_slice-way-items.ensures)

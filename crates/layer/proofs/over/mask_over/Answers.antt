@@ -15,5 +15,5 @@ join-requires g c =
     let law = g.met.M.SiteModel.lawful c.args.m.now in
     record {
       labels = omega (arith, label_room m b law c.requires, c.labels.ensures.labels);
-      room = same-room _ _ _ _ _ _ c.mask-mask.ensures.mask c.labels.ensures.labels c.bits-in.ensures (mask_room m b law c.requires (c.args.s / 65536) (verdicts_in b c.mask-mask.result (c.args.s % 65536)));
+      room = same-room _ _ _ _ _ _ c.mask-mask.ensures.mask c.labels.ensures.labels c.bits_in.ensures (mask_room m b law c.requires (c.args.s / 65536) (verdicts_in b c.mask-mask.result (c.args.s % 65536)));
     }

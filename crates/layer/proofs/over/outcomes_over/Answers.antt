@@ -17,5 +17,5 @@ lift-requires g c =
     let few : length (contents book).items ≤ 16 = take_few book.kept book.items book.few.1 in
     record {
       low = subst Low (sym c.outcomes.ensures.outcomes) (target_room m (contents book) law c.requires (c.args.s / 65536) c.args.a);
-      small = omega (arith, c.next-memory.ensures, memory_small (contents book).items (verdicts_in (contents book) c.mask.result (c.args.s % 65536)) few);
+      small = omega (arith, c.next_memory.ensures, memory_small (contents book).items (verdicts_in (contents book) c.mask.result (c.args.s % 65536)) few);
     }

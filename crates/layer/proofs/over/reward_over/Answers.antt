@@ -10,7 +10,7 @@ small_there r z e h =
     let low : nat_abs r ≤ 2000 = omega (arith, ap nat_abs e) in
     omega (arith, ap nat_abs (to_z-of_z w32 r (small-fits r (omega arith))))
 
-pub earn-in-requires : goal.earn-in-requires
-earn-in-requires g c =
+pub earn_in-requires : goal.earn_in-requires
+earn_in-requires g c =
     let m = g.M.SiteModel.meaning c.args.m.now in
     small_there c.reward.result _ c.reward.ensures.reward (reward_room m (contents c.args.book.now) (g.met.M.SiteModel.lawful c.args.m.now) c.requires (c.args.s / 65536))

@@ -5,7 +5,7 @@ pub returns : goal.returns
 returns g c =
     let p = c.args.pile.now in
     let law = g.met.P.Pile in
-    let told = c.write-out.ensures in
+    let told = c.write_out.ensures in
     record {
       answer = told.answer;
       codes = told.codes;

@@ -10,7 +10,7 @@ invariant-of-self g c =
     let l : n < length xs = omega arith in (
       omega (arith, length-set xs n c.args.key),
       (
-        written-distinct g.K.Key.equals g.met.K.Key.decides c.args.key xs n l c.in-default.ensures c.args.self.now.apart,
+        written-distinct g.K.Key.equals g.met.K.Key.decides c.args.key xs n l c.in_default.ensures c.args.self.now.apart,
         tt,
       ),
     )

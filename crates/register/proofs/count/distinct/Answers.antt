@@ -16,10 +16,10 @@ returns g c =
     _
     (search rules)
 
-pub returns-in-err-enter : goal.returns-in-err-enter
-returns-in-err-enter g c =
+pub returns-in_err-enter : goal.returns-in_err-enter
+returns-in_err-enter g c =
     let inv = c.loop-key.invariant in
-    let told = c.in-err-enter.ensures in
+    let told = c.in_err-enter.ensures in
     refused g.K.Key.equals c.args.keys.now c.new-register.result.keys.now c.args.table.now (listed c.loop-key.register) c.loop-key.register.keys.now c.enter.new.self.keys.now c.enter.new.self.len c.loop-key.key-index c.key-item.result
     c.loop-key-test.true
     c.key-item.is

@@ -7,8 +7,8 @@ use Rattle.rulebook.specs.Drafts.{head_from, list_from, masks_from}
 use Rattle.rulebook.proofs.Tables.{acts-length}
 use Rattle.rulebook.proofs.read.outcome_step.Goals as goal
 
-pub filled-by-requires : goal.filled-by-requires
-filled-by-requires c =
+pub filled_by-requires : goal.filled_by-requires
+filled_by-requires c =
     let t = c.args.table in
     let a = c.args.action in
     let head = head-parts t.switches t.actions t.start c.requires.0.0 in
@@ -20,7 +20,7 @@ filled-by-requires c =
 pub returns-in-Ok : goal.returns-in-Ok
 unfolding read_word
 returns-in-Ok c =
-    c.filled-by.ensures
+    c.filled_by.ensures
     ∙ ap (λ x. going x (λ e. filled (head_from c.args.table) (list_from c.args.table) (masks_from c.args.action c.args.count) (effects_of c.args.action ++ (effect_of e ∷ [])))) c.in-Ok.ensures
 
 pub returns-in-Err : goal.returns-in-Err

@@ -8,10 +8,10 @@ use Rattle.rulebook.specs.Drafts.{draft_from}
 use Rattle.words.proofs.Reading.{turn}
 use Rattle.rulebook.proofs.read.read_rule.Goals as goal
 
-pub returns-in-default : goal.returns-in-default
-returns-in-default c =
+pub returns-in_default : goal.returns-in_default
+returns-in_default c =
     record {
-      reads = c.loop-word.invariant.0 ∙ run_short rule_format (draft_from c.loop-word.stage) c.loop-word.place c.loop-word.left.now c.in-default.ensures;
+      reads = c.loop-word.invariant.0 ∙ run_short rule_format (draft_from c.loop-word.stage) c.loop-word.place c.loop-word.left.now c.in_default.ensures;
       faithful = rule-faithful;
     }
 

@@ -21,9 +21,9 @@ pub returns-then-not-needless : goal.returns-then-not-needless
 unfolding whole_rule
 returns-then-not-needless c = sym (cond-false (waits (list_from c.args.table)) _ _ (first-told c.args.table c.index-acts-0.result c.requires ∙ sym c.if-not-needless.ensures))
 
-pub invariant-of-result : goal.invariant-of-result
+pub invariant_of-result : goal.invariant_of-result
 unfolding whole_rule
-invariant-of-result c =
+invariant_of-result c =
     let h = head_from c.args.table in
     let acts = list_from c.args.table in
     let first = first-told c.args.table c.index-acts-0.result c.requires ∙ sym c.if-not-needless.ensures in

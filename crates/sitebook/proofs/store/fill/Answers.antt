@@ -12,4 +12,4 @@ pub loop-starts-preserved : goal.loop-starts-preserved
 loop-starts-preserved c =
     let starts = c.loop-starts.starts in
     let below : length (vec_items starts) < c.args.count = omega (arith, c.loop-starts-test.true, c.len.ensures, starts.ok.0) in
-    rw c.in-ok-push.ensures.items (one_more c.args.count c.args.end (vec_items starts) below ∙ c.loop-starts.invariant)
+    rw c.in_ok-push.ensures.items (one_more c.args.count c.args.end (vec_items starts) below ∙ c.loop-starts.invariant)

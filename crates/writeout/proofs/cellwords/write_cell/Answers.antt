@@ -10,8 +10,8 @@ use Rattle.writeout.specs.Book.{move_to, cell_of}
 use Rattle.writeout.proofs.Wording.{cell-said, cell-none}
 use Rattle.writeout.proofs.cellwords.write_cell.Goals as goal
 
-pub entry-word-requires : goal.entry-word-requires
-entry-word-requires g c =
+pub entry_word-requires : goal.entry_word-requires
+entry_word-requires g c =
     let law = g.met.M.SiteModel.lawful c.args.m.now in
     (c.requires.0, (omega (arith, c.requires.1, law.acts), omega (arith, c.len-then-len-gt0.ensures, ap length c.outcomes-outcomes.ensures.outcomes, law.few c.args.code c.args.action)))
 
@@ -29,11 +29,11 @@ returns-then-len-gt0 g c =
     ∙ ap (λ a. word_of_entry (k / m.actions) a (length cell) ∷ move_words cell) (sym (mod-mul-add c.args.place m.actions c.args.action c.requires.1))
     ∙ sym (cell-said m.actions k cell some) in
     let head : Adds (word_of_entry c.args.place c.args.action c.len-then-len-gt0.result ∷ []) c.args.pen.now c.put.new.self =
-    subst (λ w. Adds (w ∷ []) c.args.pen.now c.put.new.self) c.entry-word.ensures c.put.ensures in
-    let moves : Adds (move_words cell) c.put.new.self c.write-moves.new.pen =
-    subst (λ os. Adds (move_words (map (move_to codes) os)) c.put.new.self c.write-moves.new.pen) c.outcomes-outcomes.ensures.outcomes c.write-moves.ensures in
-    subst (λ ws. Adds ws c.args.pen.now c.write-moves.new.pen) words
-    (adds_both (word_of_entry c.args.place c.args.action c.len-then-len-gt0.result ∷ []) (move_words cell) c.args.pen.now c.put.new.self c.write-moves.new.pen head moves)
+    subst (λ w. Adds (w ∷ []) c.args.pen.now c.put.new.self) c.entry_word.ensures c.put.ensures in
+    let moves : Adds (move_words cell) c.put.new.self c.write_moves.new.pen =
+    subst (λ os. Adds (move_words (map (move_to codes) os)) c.put.new.self c.write_moves.new.pen) c.outcomes-outcomes.ensures.outcomes c.write_moves.ensures in
+    subst (λ ws. Adds ws c.args.pen.now c.write_moves.new.pen) words
+    (adds_both (word_of_entry c.args.place c.args.action c.len-then-len-gt0.result ∷ []) (move_words cell) c.args.pen.now c.put.new.self c.write_moves.new.pen head moves)
 
 pub returns-else-len-gt0 : goal.returns-else-len-gt0
 returns-else-len-gt0 g c =

@@ -10,16 +10,16 @@ use Rattle.writeout.proofs.cellwords.write_state.Goals as goal
 pub loop-action-init : goal.loop-action-init
 loop-action-init g c = adds_none c.args.pen.now
 
-pub write-cell-requires : goal.write-cell-requires
-write-cell-requires g c = (c.requires, omega (arith, c.actions-action-end.ensures.actions))
+pub write_cell-requires : goal.write_cell-requires
+write_cell-requires g c = (c.requires, omega (arith, c.actions-action-end.ensures.actions))
 
 pub loop-action-preserved : goal.loop-action-preserved
 loop-action-preserved g c =
     let m = g.M.SiteModel.meaning c.args.m.now in
     let codes = listed c.args.codes.now in
     let a = c.loop-action.action in
-    subst (λ ws. Adds ws c.args.pen.now c.write-cell.new.pen) (sym (below_more m codes c.args.code c.args.place a))
-    (adds_both (cell_words m.actions (c.args.place * m.actions) (cells_below m codes c.args.code a)) (cell_word m.actions (c.args.place * m.actions + a) (cell_of m codes c.args.code a)) c.args.pen.now c.loop-action.pen c.write-cell.new.pen c.loop-action.invariant c.write-cell.ensures)
+    subst (λ ws. Adds ws c.args.pen.now c.write_cell.new.pen) (sym (below_more m codes c.args.code c.args.place a))
+    (adds_both (cell_words m.actions (c.args.place * m.actions) (cells_below m codes c.args.code a)) (cell_word m.actions (c.args.place * m.actions + a) (cell_of m codes c.args.code a)) c.args.pen.now c.loop-action.pen c.write_cell.new.pen c.loop-action.invariant c.write_cell.ensures)
 
 pub returns : goal.returns
 returns g c =

@@ -6,8 +6,8 @@ use Rattle.pen.proofs.Laying.{adds_both}
 use Rattle.sitelayout.specs.OneWord.{word_of_mask, word_of_reward}
 use Rattle.writeout.proofs.markwords.write_mark.Goals as goal
 
-pub mask-word-requires : goal.mask-word-requires
-mask-word-requires g c =
+pub mask_word-requires : goal.mask_word-requires
+mask_word-requires g c =
     omega (arith, c.mask.ensures.mask, mask_below (g.M.SiteModel.meaning c.args.m.now) (g.met.M.SiteModel.lawful c.args.m.now) c.args.code)
 
 pub reward-word-requires : goal.reward-word-requires
@@ -23,9 +23,9 @@ returns g c =
     let fits : SFits w32 c.reward.result = record { sfits = c.reward.type-inv } in
     let reward = to_z-of_z w32 c.reward.result fits ∙ c.reward.ensures.reward in
     let first : Adds (word_of_mask (m.mask c.args.code) ∷ []) c.args.pen.now c.put.new.self =
-    subst (λ w. Adds (w ∷ []) c.args.pen.now c.put.new.self) (c.mask-word.ensures ∙ ap word_of_mask c.mask.ensures.mask) c.put.ensures in
+    subst (λ w. Adds (w ∷ []) c.args.pen.now c.put.new.self) (c.mask_word.ensures ∙ ap word_of_mask c.mask.ensures.mask) c.put.ensures in
     let second : Adds (word_of_reward (nat_abs (m.reward c.args.code +ℤ pos 2000)) (m.ground c.args.code) ∷ []) c.put.new.self c.put-2.new.self =
     subst (λ w. Adds (w ∷ []) c.put.new.self c.put-2.new.self)
-    (c.reward-word.ensures ∙ ap (λ r. word_of_reward (nat_abs (r +ℤ pos 2000)) c.ground.result) reward ∙ ap (word_of_reward (nat_abs (m.reward c.args.code +ℤ pos 2000))) c.ground.ensures.ground)
+    (c.reward_word.ensures ∙ ap (λ r. word_of_reward (nat_abs (r +ℤ pos 2000)) c.ground.result) reward ∙ ap (word_of_reward (nat_abs (m.reward c.args.code +ℤ pos 2000))) c.ground.ensures.ground)
     c.put-2.ensures in
     adds_both (word_of_mask (m.mask c.args.code) ∷ []) (word_of_reward (nat_abs (m.reward c.args.code +ℤ pos 2000)) (m.ground c.args.code) ∷ []) c.args.pen.now c.put.new.self c.put-2.new.self first second

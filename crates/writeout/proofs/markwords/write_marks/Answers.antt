@@ -20,8 +20,8 @@ loop-code-preserved g c =
     let at = c.in-Some.ensures in
     let more : mark_words (map (mark_of m) (take (i + 1) xs)) ≡ mark_words (map (mark_of m) (take i xs)) ++ mark_words (mark_of m c.in-Some.code ∷ []) =
     ap mark_words (map_more (mark_of m) xs i 0 at.0) ∙ marks-append (map (mark_of m) (take i xs)) (mark_of m _ ∷ []) ∙ ap (λ x. mark_words (map (mark_of m) (take i xs)) ++ mark_words (mark_of m x ∷ [])) (sym (at.1 0)) in
-    subst (λ ws. Adds ws c.args.pen.now c.write-mark.new.pen) (sym more)
-    (adds_both (mark_words (map (mark_of m) (take i xs))) (mark_words (mark_of m c.in-Some.code ∷ [])) c.args.pen.now c.loop-code.pen c.write-mark.new.pen c.loop-code.invariant c.write-mark.ensures)
+    subst (λ ws. Adds ws c.args.pen.now c.write_mark.new.pen) (sym more)
+    (adds_both (mark_words (map (mark_of m) (take i xs))) (mark_words (mark_of m c.in-Some.code ∷ [])) c.args.pen.now c.loop-code.pen c.write_mark.new.pen c.loop-code.invariant c.write_mark.ensures)
 
 pub loop-code-smaller : goal.loop-code-smaller
 loop-code-smaller g c =
@@ -31,4 +31,4 @@ loop-code-smaller g c =
 pub returns : goal.returns
 returns g c =
     let m = g.M.SiteModel.meaning c.args.m.now in
-    subst (λ xs. Adds (mark_words (map (mark_of m) xs)) c.args.pen.now c.loop-code.pen) (take_all c.loop-code.place (listed c.args.codes.now) c.in-default.ensures) c.loop-code.invariant
+    subst (λ xs. Adds (mark_words (map (mark_of m) xs)) c.args.pen.now c.loop-code.pen) (take_all c.loop-code.place (listed c.args.codes.now) c.in_default.ensures) c.loop-code.invariant

@@ -28,7 +28,7 @@ returns-in-Some g c =
           (ap (λ l. words_in (length c.args.bytes.now) (book_of m l)) (sym same) ∙ sym book.count);
       tables = (
         codes-left c.search.new.codes (codes_of m) c.args.codes.now _ same (told.rest ∙ ap (drop c.search.new.codes.len) table) c.requires (told.room ∙ ap length table) (search rules),
-        subst (λ l. WrittenIn (Some c.in-Some.words) c.write-book.new.bytes (book_of m l)) same book.bytes,
+        subst (λ l. WrittenIn (Some c.in-Some.words) c.write_book.new.bytes (book_of m l)) same book.bytes,
       );
     }
 

@@ -10,14 +10,14 @@ pub returns-then-is-err : goal.returns-then-is-err
 returns-then-is-err g c =
     let m = g.M.SiteModel.meaning c.args.m.now in
     let law = g.met.M.SiteModel.lawful c.args.m.now in
-    let is = sym c.if-is-err.ensures.value in
+    let is = sym c.if-is_err.ensures.value in
     let places : length c.wipe.new.table ≡ length c.args.codes.now = omega arith in
     let codes : length c.attempt-answer.new.codes ≡ length c.args.codes.now = omega arith in
     let bytes : length c.attempt-answer.new.bytes ≡ length c.args.bytes.now = omega arith in
     record {
       answer = c.attempt-answer.ensures.answer ∙ ap (λ n. outcome m n (length c.args.bytes.now)) places;
-      codes = left-refused c.attempt-answer.result is (length c.args.codes.now) (codes_of m) _ (c.wipe-then-is-err.ensures ∙ ap (λ n. replicate n 0) codes);
-      bytes = left-refused c.attempt-answer.result is (length c.args.bytes.now) (file (site_words (out_book m))) _ (c.wipe-then-is-err-2.ensures ∙ ap (λ n. replicate n 0) bytes);
+      codes = left-refused c.attempt-answer.result is (length c.args.codes.now) (codes_of m) _ (c.wipe-then-is_err.ensures ∙ ap (λ n. replicate n 0) codes);
+      bytes = left-refused c.attempt-answer.result is (length c.args.bytes.now) (file (site_words (out_book m))) _ (c.wipe-then-is_err-2.ensures ∙ ap (λ n. replicate n 0) bytes);
       faithful = faithfully m law;
     }
 
@@ -25,7 +25,7 @@ pub returns-else-is-err : goal.returns-else-is-err
 returns-else-is-err g c =
     let m = g.M.SiteModel.meaning c.args.m.now in
     let law = g.met.M.SiteModel.lawful c.args.m.now in
-    let is = sym c.if-is-err.ensures.value in
+    let is = sym c.if-is_err.ensures.value in
     let places : length c.wipe.new.table ≡ length c.args.codes.now = omega arith in
     record {
       answer = c.attempt-answer.ensures.answer ∙ ap (λ n. outcome m n (length c.args.bytes.now)) places;

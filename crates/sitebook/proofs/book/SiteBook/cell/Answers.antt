@@ -39,7 +39,7 @@ part-requires c =
     let from = get_or_read_under xs k (vec_len b.starts) c.index.result.now 0 c.index.ensures (omega arith) b.starts.ok.0 in
     let to = get_or_read_under xs (k + 1) (vec_len b.starts) c.index-2.result.now 0 c.index-2.ensures both b.starts.ok.0 in
     let up = b.rising k (omega (arith, b.starts.ok.0)) in
-    (omega (arith, from, to, up.0), omega (arith, to, up.1, ap length c.as-slice.ensures.value))
+    (omega (arith, from, to, up.0), omega (arith, to, up.1, ap length c.as_slice.ensures.value))
 
 pub returns : goal.returns
 returns c =
@@ -51,7 +51,7 @@ returns c =
     let from = get_or_read_under xs k (vec_len b.starts) c.index.result.now 0 c.index.ensures (omega arith) b.starts.ok.0 in
     let to = get_or_read_under xs (k + 1) (vec_len b.starts) c.index-2.result.now 0 c.index-2.ensures both b.starts.ok.0 in
     c.part.ensures
-    ∙ ap (λ (l : List Move). take (c.index-2.result.now - c.index.result.now) (drop c.index.result.now l)) c.as-slice.ensures.value
+    ∙ ap (λ (l : List Move). take (c.index-2.result.now - c.index.result.now) (drop c.index.result.now l)) c.as_slice.ensures.value
     ∙ ap (λ n. take (c.index-2.result.now - n) (drop n (vec_items b.moves))) from
     ∙ ap (λ n. take (n - get_or xs k 0) (drop (get_or xs k 0) (vec_items b.moves))) to
     ∙ sym (between_edges b c.args.s c.args.a low c.if-a-self.false)

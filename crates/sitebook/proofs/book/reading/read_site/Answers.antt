@@ -2,8 +2,8 @@ use Rattle.std.proofs.Common.{rules}
 use Rattle.sitelayout.proofs.Way.{site_faithful}
 use Rattle.sitebook.proofs.book.reading.read_site.Goals as goal
 
-pub returns-in-err-counts : goal.returns-in-err-counts
-returns-in-err-counts c = record { reads = search rules; faithful = site_faithful }
+pub returns-in_err-counts : goal.returns-in_err-counts
+returns-in_err-counts c = record { reads = search rules; faithful = site_faithful }
 
 pub returns-in-Ok : goal.returns-in-Ok
 returns-in-Ok c = record { reads = search rules; faithful = site_faithful }

@@ -8,7 +8,7 @@ use Rattle.sitebook.proofs.Storing.{Storing, storing_room, storing_long, storing
 use Rattle.sitebook.proofs.book.reading.stored.Goals as goal
 
 pub unreachable-requires : goal.unreachable-requires
-unreachable-requires c = storing_long c.args.bytes.now c.loop-word.rest.now c.args.counts (held c.loop-word.tables) c.loop-word.invariant c.in-default.ensures
+unreachable-requires c = storing_long c.args.bytes.now c.loop-word.rest.now c.args.counts (held c.loop-word.tables) c.loop-word.invariant c.in_default.ensures
 
 pub closed-requires : goal.closed-requires
 closed-requires c =
@@ -29,5 +29,5 @@ put-requires c =
 pub loop-word-preserved : goal.loop-word-preserved
 loop-word-preserved c =
     let read = c.in-Some.ensures in
-    rw c.in-ok-put.ensures
+    rw c.in_ok-put.ensures
     (storing_more c.args.bytes.now c.loop-word.rest.now c.args.counts (held c.loop-word.tables) c.loop-word.invariant c.in-Some.next.now c.in-Some.word read.0 read.1 read.2 c.if-word-eq15.false)

@@ -4,24 +4,24 @@ use Rattle.wishbook.specs.Gathers.{nodes_in}
 use Rattle.wishbook.proofs.Whole.{always_merges, whole_tables, count-few, tables_sound, tables_remember, tables_few, tables_book, tables_over}
 use Rattle.wishbook.proofs.gathered.Gathered.book.Goals as goal
 
-pub returns-in-default : goal.returns-in-default
-returns-in-default c =
+pub returns-in_default : goal.returns-in_default
+returns-in_default c =
     let good = c.requires in
-    absurd (always_merges (take (c.args.self.now.count - 0) c.args.self.now.nodes) (omega (arith, ap (λ n. length (take n c.args.self.now.nodes)) (sub-zero c.args.self.now.count), good.0.1.1)) (search rules) (search rules) c.in-default.ensures.answer)
+    absurd (always_merges (take (c.args.self.now.count - 0) c.args.self.now.nodes) (omega (arith, ap (λ n. length (take n c.args.self.now.nodes)) (sub-zero c.args.self.now.count), good.0.1.1)) (search rules) (search rules) c.in_default.ensures.answer)
 
-pub invariant-of-result : goal.invariant-of-result
-invariant-of-result c =
+pub invariant_of-result : goal.invariant_of-result
+invariant_of-result c =
     let g = c.args.self.now in
-    let t = whole_tables c.args.self.now c.in-Some.count c.rename-all-wishes.result c.in-Some.ensures.answer c.rename-all-wishes.ensures in
+    let t = whole_tables c.args.self.now c.in-Some.count c.rename_all-wishes.result c.in-Some.ensures.answer c.rename_all-wishes.ensures in
     let r = c.in-Some-remember.ensures in (
-      (search rules, count-few c.args.self.now c.merge.new.nodes c.in-Some.count c.rename-all-wishes.result t c.requires),
+      (search rules, count-few c.args.self.now c.merge.new.nodes c.in-Some.count c.rename_all-wishes.result t c.requires),
       (
         (search rules, g.few.3),
         (
           (search rules, r.0),
           (
-            tables_sound c.args.self.now c.merge.new.nodes c.in-Some.count c.rename-all-wishes.result t c.requires,
-            (tables_remember c.args.self.now c.merge.new.nodes c.in-Some.count c.rename-all-wishes.result t c.requires c.remember.new.items c.in-Some-remember.kept r, tt),
+            tables_sound c.args.self.now c.merge.new.nodes c.in-Some.count c.rename_all-wishes.result t c.requires,
+            (tables_remember c.args.self.now c.merge.new.nodes c.in-Some.count c.rename_all-wishes.result t c.requires c.remember.new.items c.in-Some-remember.kept r, tt),
           ),
         ),
       ),
@@ -29,13 +29,13 @@ invariant-of-result c =
 
 pub returns-in-Some-remember : goal.returns-in-Some-remember
 returns-in-Some-remember c =
-    let t = whole_tables c.args.self.now c.in-Some.count c.rename-all-wishes.result c.in-Some.ensures.answer c.rename-all-wishes.ensures in
+    let t = whole_tables c.args.self.now c.in-Some.count c.rename_all-wishes.result c.in-Some.ensures.answer c.rename_all-wishes.ensures in
     let r = c.in-Some-remember.ensures in (
-      tables_few c.args.self.now c.merge.new.nodes c.in-Some.count c.rename-all-wishes.result t c.requires c.remember.new.items c.in-Some-remember.kept (search rules) r,
-      tables_book c.args.self.now c.merge.new.nodes c.in-Some.count c.rename-all-wishes.result t c.requires c.remember.new.items c.in-Some-remember.kept r,
+      tables_few c.args.self.now c.merge.new.nodes c.in-Some.count c.rename_all-wishes.result t c.requires c.remember.new.items c.in-Some-remember.kept (search rules) r,
+      tables_book c.args.self.now c.merge.new.nodes c.in-Some.count c.rename_all-wishes.result t c.requires c.remember.new.items c.in-Some-remember.kept r,
     )
 
 pub returns-in-None : goal.returns-in-None
 returns-in-None c =
-    let t = whole_tables c.args.self.now c.in-Some.count c.rename-all-wishes.result c.in-Some.ensures.answer c.rename-all-wishes.ensures in
-    (tables_over c.args.self.now c.merge.new.nodes c.in-Some.count c.rename-all-wishes.result t c.requires c.remember.new.items c.in-None.ensures, refl)
+    let t = whole_tables c.args.self.now c.in-Some.count c.rename_all-wishes.result c.in-Some.ensures.answer c.rename_all-wishes.ensures in
+    (tables_over c.args.self.now c.merge.new.nodes c.in-Some.count c.rename_all-wishes.result t c.requires c.remember.new.items c.in-None.ensures, refl)

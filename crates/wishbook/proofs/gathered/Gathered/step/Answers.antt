@@ -8,10 +8,10 @@ use Rattle.wishbook.proofs.gathered.Gathered.step.Goals as goal
 
 pub returns-then-kind-ne10 : goal.returns-then-kind-ne10
 returns-then-kind-ne10 c =
-    let told = c.add-node.ensures in
+    let told = c.add_node.ensures in
     record {
-      answer = by_node c.args.self.now c.add-node.new.self c.args.word c.add-node.result c.if-self-eq0.true (ne_eqb (kind c.args.word) 10 c.if-kind-ne10.true) told.wished told.answer;
-      ended = λ e. not_ended_node (take c.args.self.now.count c.args.self.now.nodes) c.args.word (take c.add-node.new.self.count c.add-node.new.self.nodes) c.add-node.result told.answer e;
+      answer = by_node c.args.self.now c.add_node.new.self c.args.word c.add_node.result c.if-self-eq0.true (ne_eqb (kind c.args.word) 10 c.if-kind-ne10.true) told.wished told.answer;
+      ended = λ e. not_ended_node (take c.args.self.now.count c.args.self.now.nodes) c.args.word (take c.add_node.new.self.count c.add_node.new.self.nodes) c.add_node.result told.answer e;
     }
 
 pub returns-then-self-eq0-2 : goal.returns-then-self-eq0-2
@@ -23,13 +23,13 @@ returns-then-self-eq0-2 c =
 
 pub returns-then-self-eq0 : goal.returns-then-self-eq0
 returns-then-self-eq0 c =
-    let told = c.add-wish.ensures in
+    let told = c.add_wish.ensures in
     let few = c.args.self.now.few in
     record {
-      answer = by_first c.args.self.now c.add-wish.new.self c.args.word c.add-wish.result c.if-self-eq0.true (eq-eqb (kind c.args.word) 10 c.if-kind-ne10.false)
+      answer = by_first c.args.self.now c.add_wish.new.self c.args.word c.add_wish.result c.if-self-eq0.true (eq-eqb (kind c.args.word) 10 c.if-kind-ne10.false)
           (omega (arith, length-take-le c.args.self.now.count c.args.self.now.nodes (omega (arith, few.0, few.1)), c.if-self-eq0-2.false))
           (λ i. take (told.count i) (told.nodes i)) told.answer;
-      ended = λ e. not_ended_wish (take c.args.self.now.count c.args.self.now.nodes) (take c.args.self.now.wished c.args.self.now.wishes) c.args.word (take c.add-wish.new.self.wished c.add-wish.new.self.wishes) c.add-wish.result told.answer e;
+      ended = λ e. not_ended_wish (take c.args.self.now.count c.args.self.now.nodes) (take c.args.self.now.wished c.args.self.now.wishes) c.args.word (take c.add_wish.new.self.wished c.add_wish.new.self.wishes) c.add_wish.result told.answer e;
     }
 
 pub returns-then-kind-eq15 : goal.returns-then-kind-eq15
@@ -41,9 +41,9 @@ returns-then-kind-eq15 c =
 
 pub returns : goal.returns
 returns c =
-    let told = c.add-wish-2.ensures in
+    let told = c.add_wish-2.ensures in
     record {
-      answer = by_wish c.args.self.now c.add-wish-2.new.self c.args.word c.add-wish-2.result c.if-self-eq0.false (ne_eqb (kind c.args.word) 15 c.if-kind-eq15.false)
+      answer = by_wish c.args.self.now c.add_wish-2.new.self c.args.word c.add_wish-2.result c.if-self-eq0.false (ne_eqb (kind c.args.word) 15 c.if-kind-eq15.false)
           (λ i. take (told.count i) (told.nodes i)) told.answer;
-      ended = λ e. not_ended_wish (take c.args.self.now.count c.args.self.now.nodes) (take c.args.self.now.wished c.args.self.now.wishes) c.args.word (take c.add-wish-2.new.self.wished c.add-wish-2.new.self.wishes) c.add-wish-2.result told.answer e;
+      ended = λ e. not_ended_wish (take c.args.self.now.count c.args.self.now.nodes) (take c.args.self.now.wished c.args.self.now.wishes) c.args.word (take c.add_wish-2.new.self.wished c.add_wish-2.new.self.wishes) c.add_wish-2.result told.answer e;
     }

@@ -5,8 +5,8 @@ use Rattle.wishbook.proofs.gathered.whole.remember.Goals as goal
 
 pub returns : goal.returns
 returns c =
-    let told = c.in-ok-marks.ensures.marked in
-    remembered c.args.nodes.now c.args.wishes.now (take (length c.args.wishes.now - 0) c.roots-roots.result) c.in-ok-marks.marks (take (length c.args.nodes.now - 0) c.in-ok-marks.marks)
-    c.args.items.now c.keep-items.new.items c.keep-items.result
+    let told = c.in_ok-marks.ensures.marked in
+    remembered c.args.nodes.now c.args.wishes.now (take (length c.args.wishes.now - 0) c.roots-roots.result) c.in_ok-marks.marks (take (length c.args.nodes.now - 0) c.in_ok-marks.marks)
+    c.args.items.now c.keep_items.new.items c.keep_items.result
     c.requires.many (search rules) (ap (λ n. take n c.roots-roots.result) (sub-zero (length c.args.wishes.now)) ∙ c.roots-roots.ensures)
-    told.1 (ap (λ n. take n c.in-ok-marks.marks) (sub-zero (length c.args.nodes.now))) c.keep-items.ensures.answer
+    told.1 (ap (λ n. take n c.in_ok-marks.marks) (sub-zero (length c.args.nodes.now))) c.keep_items.ensures.answer
