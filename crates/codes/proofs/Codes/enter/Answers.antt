@@ -6,8 +6,8 @@ use Rattle.codes.proofs.Search.{eqb_decides}
 use Rattle.codes.proofs.Written.{heads_written, links_written}
 use Rattle.codes.proofs.Codes.enter.Goals as goal
 
-pub invariant-of-self : goal.invariant-of-self
-invariant-of-self c =
+pub invariant_of-self : goal.invariant_of-self
+invariant_of-self c =
     let self = c.args.self.now in
     let code = c.args.code in
     let xs = self.table.now in

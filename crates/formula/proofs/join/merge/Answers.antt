@@ -41,8 +41,8 @@ returns-in_err-place c =
           told.room
           _
           (search rules)
-          c.from-residual.result
-          c.from-residual.ensures;
+          c.from_residual.result
+          c.from_residual.ensures;
       faithful = faithful c.args.words.now;
     }
 

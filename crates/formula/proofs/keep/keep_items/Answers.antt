@@ -21,11 +21,11 @@ returns-in_err-len c =
           c.loop-i.items
           c.put.new.items
           c.loop-i.len
-          c.from-residual.result
+          c.from_residual.result
           c.if-nodes-gt128.false
           c.loop-i.invariant
           c.in_err-len.ensures
-          c.from-residual.ensures;
+          c.from_residual.ensures;
       selected = selected c.args.nodes.now c.args.marks.now;
     }
 
@@ -48,11 +48,11 @@ returns-in_err-len-2 c =
           c.put.new.items
           c.put-in-loop-i.new.items
           c.in_ok-len.len
-          c.from-residual-in_err-len-2.result
+          c.from_residual-in_err-len-2.result
           c.if-nodes-gt128.false
           first
           c.in_err-len-2.ensures
-          c.from-residual-in_err-len-2.ensures;
+          c.from_residual-in_err-len-2.ensures;
       selected = selected c.args.nodes.now c.args.marks.now;
     }
 

@@ -31,8 +31,8 @@ returns-in_err-enter g c =
     c.new-register.ensures.table
     _
     (search rules)
-    c.from-residual.result
-    c.from-residual.ensures
+    c.from_residual.result
+    c.from_residual.ensures
 
 pub loop-key-preserved : goal.loop-key-preserved
 loop-key-preserved g c =

@@ -18,8 +18,8 @@ returns-in_err-before g c =
     let room = c.write_cells.ensures.room ∙ c.write_marks.ensures.room ∙ c.write_head.ensures.room ∙ c.new-pen.ensures.room in
     let none = ap (λ n. counted n (site_words (book_of m codes))) (sym room) ∙ sym (c.written.ensures (site_words (book_of m codes)) laid) ∙ c.in_err-before.was in
     record {
-      count = c.from-residual.ensures ∙ sym (counted_none (length c.args.bytes.now) (site_words (book_of m codes)) (end_word (length (site_words (book_of m codes)))) none);
-      bytes = written_none c.from-residual.result c.from-residual.ensures _ (book_of m codes);
+      count = c.from_residual.ensures ∙ sym (counted_none (length c.args.bytes.now) (site_words (book_of m codes)) (end_word (length (site_words (book_of m codes)))) none);
+      bytes = written_none c.from_residual.result c.from_residual.ensures _ (book_of m codes);
     }
 
 pub overflow-cast-before : goal.overflow-cast-before
