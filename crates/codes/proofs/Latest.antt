@@ -4,15 +4,15 @@ use Rattle.codes.specs.Chains.{bucket_of, latest}
 use Rattle.std.proofs.lemmas.List.{get_or-set_other}
 use Rattle.std.proofs.lemmas.Bool.{cond_both, cond-true, cond-false, eqb-true, eqb-false, eq-eqb, ne_eqb, cases_eq}
 
-pub latest-none : (xs : List ℕ) (b : ℕ) → latest xs 0 b ≡ 0
+pub latest_none : (xs : List ℕ) (b : ℕ) → latest xs 0 b ≡ 0
 unfolding latest
-latest-none xs b = refl
+latest_none xs b = refl
 
-pub latest-within : (xs : List ℕ) (n b : ℕ) → latest xs n b ≤ n
+pub latest_within : (xs : List ℕ) (n b : ℕ) → latest xs n b ≤ n
 unfolding latest
-latest-within xs zero b = omega arith
-latest-within xs (suc n) b =
-    let rest : latest xs n b ≤ n = latest-within xs n b in
+latest_within xs zero b = omega arith
+latest_within xs (suc n) b =
+    let rest : latest xs n b ≤ n = latest_within xs n b in
     cond_both (eqb (bucket_of (get_or xs n 0)) b) (suc n) (latest xs n b) (λ at. at ≤ suc n)
     (λ _. omega arith)
     (λ _. omega arith)
@@ -48,9 +48,9 @@ latest-set xs (suc n) b i x l =
     ∙ ap (λ (r : ℕ). cond (eqb (bucket_of (get_or xs n 0)) b) (suc n) r) (latest-set xs n b i x (omega arith))
 
 -- one place more is the last of its own bucket,
-pub latest-here : (xs : List ℕ) (n b : ℕ) → bucket_of (get_or xs n 0) ≡ b → latest xs (n + 1) b ≡ n + 1
+pub latest_here : (xs : List ℕ) (n b : ℕ) → bucket_of (get_or xs n 0) ≡ b → latest xs (n + 1) b ≡ n + 1
 unfolding latest
-latest-here xs n b e =
+latest_here xs n b e =
     rw add-one (cond-true (eqb (bucket_of (get_or xs n 0)) b) (suc n) (latest xs n b) (eq-eqb (bucket_of (get_or xs n 0)) b e))
 
 -- and of no other

@@ -1,7 +1,7 @@
 -- The search for a code goes back through its bucket: what it has yet to see holds the code, if any place does.
 use Rattle.std.proofs.Common.{◌≡◌, ℕ, ◌-◌, ◌<◌, ◌≤◌, eqb, List, length, get_or, take, Some, sym, refl, ap, ◌∙◌, subst, ⊎_elim, arith}
 use Rattle.codes.specs.Chains.{bucket_of, latest}
-use Rattle.codes.proofs.Latest.{latest-within, latest_in, latest_past}
+use Rattle.codes.proofs.Latest.{latest_within, latest_in, latest_past}
 use Rattle.register.specs.Keys.{Decides, Distinct, place_of, Placed}
 use Rattle.register.proofs.Keys.{place_of_le, place_of_at, place_of-get_or}
 use Rattle.std.proofs.lemmas.List.{get_or-take, length-take-le}
@@ -21,7 +21,7 @@ Sought xs n code at =
 pub sought_first : (xs : List ℕ) (n code at : ℕ) → at ≡ latest xs n (bucket_of code) → Sought xs n code at
 sought_first xs n code at e =
     subst (Sought xs n code) (sym e) (
-      latest-within xs n (bucket_of code),
+      latest_within xs n (bucket_of code),
       latest_in xs n (bucket_of code),
       λ q l h. latest_past xs n (bucket_of code) q l (ap bucket_of h),
     )

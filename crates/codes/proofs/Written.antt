@@ -1,7 +1,7 @@
 -- The write of a new code keeps the index: the code's bucket begins at it, and goes on where it began before.
 use Rattle.std.proofs.Common.{◌≡◌, ℕ, ◌+◌, ◌<◌, ◌≤◌, ◌≢◌, List, length, get_or, set, sym, ap, ◌∙◌, subst, ⊎_elim, arith}
 use Rattle.codes.specs.Chains.{bucket_of, latest}
-use Rattle.codes.proofs.Latest.{latest-set, latest-here, latest_other}
+use Rattle.codes.proofs.Latest.{latest-set, latest_here, latest_other}
 use Rattle.std.proofs.lemmas.List.{get_or-set_same, get_or-set_other}
 use Rattle.std.proofs.lemmas.Bool.{cases_eq, cases_lt}
 
@@ -15,7 +15,7 @@ heads_written xs heads n code l size last b m =
     (λ (own : b ≡ bucket_of code).
     let in' : bucket_of code < length heads = omega (arith, bucket_below code) in
     subst (λ (i : ℕ). get_or (set heads (bucket_of code) (n + 1)) i 0 ≡ latest (set xs n code) (n + 1) i) (sym own)
-    (get_or-set_same heads (bucket_of code) (n + 1) 0 in' ∙ sym (latest-here (set xs n code) n (bucket_of code) (ap bucket_of at))))
+    (get_or-set_same heads (bucket_of code) (n + 1) 0 in' ∙ sym (latest_here (set xs n code) n (bucket_of code) (ap bucket_of at))))
     (λ (ne : b ≢ bucket_of code).
     get_or-set_other heads (bucket_of code) b (n + 1) 0 ne
     ∙ last b m

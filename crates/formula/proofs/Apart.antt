@@ -91,19 +91,19 @@ parts ts (Always a) = (refl, refl, refl)
 parts ts (Once a) = (refl, refl, refl)
 
 -- the operands as a list
-pub operands-below : (k : ℕ) (n : Node) → operands_below k n ≡ true → All (λ a. a < k) (operands n)
-operands-below k (Label p) h = tt
-operands-below k True h = tt
-operands-below k (Not a) h = (ltb-true a k h, tt)
-operands-below k (And a b) h =
+pub operands_are_below : (k : ℕ) (n : Node) → operands_below k n ≡ true → All (λ a. a < k) (operands n)
+operands_are_below k (Label p) h = tt
+operands_are_below k True h = tt
+operands_are_below k (Not a) h = (ltb-true a k h, tt)
+operands_are_below k (And a b) h =
     let p = and_parts (ltb a k) (ltb b k) h in (ltb-true a k p.0, (ltb-true b k p.1, tt))
-operands-below k (Or a b) h =
+operands_are_below k (Or a b) h =
     let p = and_parts (ltb a k) (ltb b k) h in (ltb-true a k p.0, (ltb-true b k p.1, tt))
-operands-below k (Previous a) h = (ltb-true a k h, tt)
-operands-below k (Since a b) h =
+operands_are_below k (Previous a) h = (ltb-true a k h, tt)
+operands_are_below k (Since a b) h =
     let p = and_parts (ltb a k) (ltb b k) h in (ltb-true a k p.0, (ltb-true b k p.1, tt))
-operands-below k (Always a) h = (ltb-true a k h, tt)
-operands-below k (Once a) h = (ltb-true a k h, tt)
+operands_are_below k (Always a) h = (ltb-true a k h, tt)
+operands_are_below k (Once a) h = (ltb-true a k h, tt)
 
 -- places with one tree are one place
 one_place : (ts : List Formula) (a b : ℕ) → Distinct ts → a < length ts → b < length ts → get_or ts a truth ≡ get_or ts b truth → a ≡ b
@@ -134,6 +134,6 @@ tree_of_apart ts n m apart l r e =
     let kind : kind_of n ≡ kind_of m = sym p.0 ∙ ap kind_of_tree e ∙ q.0 in
     let label : label_of n ≡ label_of m = sym p.1 ∙ ap label_of_tree e ∙ q.1 in
     let os : operands n ≡ operands m =
-    one_list ts (operands n) (operands m) apart (operands-below (length ts) n l) (operands-below (length ts) m r) (sym p.2 ∙ ap branches e ∙ q.2) in
+    one_list ts (operands n) (operands m) apart (operands_are_below (length ts) n l) (operands_are_below (length ts) m r) (sym p.2 ∙ ap branches e ∙ q.2) in
     let same : made (kind_of n) (label_of n) (operands n) ≡ made (kind_of m) (label_of m) (operands m) = cc in
     made_is n ∙ same ∙ sym (made_is m)

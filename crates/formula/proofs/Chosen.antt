@@ -36,16 +36,16 @@ failed_is i j e = cc
 never : (i j : ℕ) → Held i ≡ Failed j → ⊥
 never i j e = let z : ◌≡◌ {A = ℕ} 0 1 = cc in omega arith
 
-back-only : (i : ℕ) (n : Node) → looks_back i n ≡ true → n ≡ Previous i
-back-only i (Label p) h = absurd (both_ways false refl h)
-back-only i True h = absurd (both_ways false refl h)
-back-only i (Not a) h = absurd (both_ways false refl h)
-back-only i (And a b) h = absurd (both_ways false refl h)
-back-only i (Or a b) h = absurd (both_ways false refl h)
-back-only i (Previous a) h = ap (λ j. Previous j) (eqb-true a i h)
-back-only i (Since a b) h = absurd (both_ways false refl h)
-back-only i (Always a) h = absurd (both_ways false refl h)
-back-only i (Once a) h = absurd (both_ways false refl h)
+back_only : (i : ℕ) (n : Node) → looks_back i n ≡ true → n ≡ Previous i
+back_only i (Label p) h = absurd (both_ways false refl h)
+back_only i True h = absurd (both_ways false refl h)
+back_only i (Not a) h = absurd (both_ways false refl h)
+back_only i (And a b) h = absurd (both_ways false refl h)
+back_only i (Or a b) h = absurd (both_ways false refl h)
+back_only i (Previous a) h = ap (λ j. Previous j) (eqb-true a i h)
+back_only i (Since a b) h = absurd (both_ways false refl h)
+back_only i (Always a) h = absurd (both_ways false refl h)
+back_only i (Once a) h = absurd (both_ways false refl h)
 
 module _ (nodes : List Node) (used : List Bool) where
   back_from : (k i : ℕ) → back_below nodes used k i ≡ true → (j : ℕ) × (j < k) × (get_or used j false ≡ true) × (get_or nodes j True ≡ Previous i)
@@ -53,7 +53,7 @@ module _ (nodes : List Node) (used : List Bool) where
   back_from (suc k) i h =
       elim (or_cases (back_below nodes used k i) (get_or used k false && looks_back i (get_or nodes k True)) h) [
         | inl low ↦ let r = back_from k i low in (r.0, omega (arith, r.1), r.2, r.3)
-        | inr here ↦ let p = and_parts (get_or used k false) (looks_back i (get_or nodes k True)) here in (k, omega arith, p.0, back-only i (get_or nodes k True) p.1)
+        | inr here ↦ let p = and_parts (get_or used k false) (looks_back i (get_or nodes k True)) here in (k, omega arith, p.0, back_only i (get_or nodes k True) p.1)
       ]
 
   back_to : (k i j : ℕ) → j < k → get_or used j false ≡ true → get_or nodes j True ≡ Previous i → back_below nodes used k i ≡ true
@@ -80,9 +80,9 @@ module _ (nodes : List Node) (used : List Bool) where
   unfolding held_test failed_test
   items_at_is i = refl
 
-  held-from : (i : ℕ) → held_test i ≡ true → (get_or used i false ≡ true) × Remembered nodes used i
+  held_from : (i : ℕ) → held_test i ≡ true → (get_or used i false ≡ true) × Remembered nodes used i
   unfolding held_test
-  held-from i h =
+  held_from i h =
       let p = and_parts (get_or used i false) (lasting (get_or nodes i True) || back_below nodes used (length nodes) i) h in (
         p.0,
         elim (or_cases (lasting (get_or nodes i True)) (back_below nodes used (length nodes) i) p.1) [
@@ -100,9 +100,9 @@ module _ (nodes : List Node) (used : List Bool) where
       and_from (get_or used i false) (lasting (get_or nodes i True) || back_below nodes used (length nodes) i) u
       (or_right (lasting (get_or nodes i True)) (back_below nodes used (length nodes) i) (back_to (length nodes) i j l v e))
 
-  failed-from : (i : ℕ) → failed_test i ≡ true → (get_or used i false ≡ true) × (is_always (get_or nodes i True) ≡ true)
+  failed_from : (i : ℕ) → failed_test i ≡ true → (get_or used i false ≡ true) × (is_always (get_or nodes i True) ≡ true)
   unfolding failed_test
-  failed-from i h = and_parts (get_or used i false) (is_always (get_or nodes i True)) h
+  failed_from i h = and_parts (get_or used i false) (is_always (get_or nodes i True)) h
 
   failed_to : (i : ℕ) → get_or used i false ≡ true → is_always (get_or nodes i True) ≡ true → failed_test i ≡ true
   unfolding failed_test
@@ -135,35 +135,35 @@ module _ (nodes : List Node) (used : List Bool) where
         | inr here ↦ (k, omega arith, here)
       ]
 
-  below-has : (k i : ℕ) (x : Item) → i < k → Has (items_at nodes used i) x → Has (items_below nodes used k) x
-  below-has zero i x l had = absurd (omega arith)
-  below-has (suc k) i x l had =
+  below_has : (k i : ℕ) (x : Item) → i < k → Has (items_at nodes used i) x → Has (items_below nodes used k) x
+  below_has zero i x l had = absurd (omega arith)
+  below_has (suc k) i x l had =
       elim (cases_lt i k) [
-        | inl low ↦ has_append_left (items_below nodes used k) (items_at nodes used k) x (below-has k i x low had)
+        | inl low ↦ has_append_left (items_below nodes used k) (items_at nodes used k) x (below_has k i x low had)
         | inr past ↦
             let at : i ≡ k = omega arith in
             has_append_right (items_below nodes used k) (items_at nodes used k) x (subst (λ (j : ℕ). Has (items_at nodes used j) x) at had)
       ]
 
-  held-only : (i : ℕ) → Has (kept_items nodes used) (Held i) → (i < length nodes) × (get_or used i false ≡ true) × Remembered nodes used i
-  held-only i had =
+  held_only_there : (i : ℕ) → Has (kept_items nodes used) (Held i) → (i < length nodes) × (get_or used i false ≡ true) × Remembered nodes used i
+  held_only_there i had =
       let r = below_cases (length nodes) (Held i) had in
       elim (at_cases r.0 (Held i) r.2) [
         | inl (h, e) ↦
             let at : r.0 ≡ i = held_is r.0 i e in
-            let p = held-from i (subst (λ (j : ℕ). held_test j ≡ true) at h) in
+            let p = held_from i (subst (λ (j : ℕ). held_test j ≡ true) at h) in
             (omega (arith, r.1), p.0, p.1)
         | inr (f, e) ↦ absurd (never i r.0 (sym e))
       ]
 
-  failed-only : (i : ℕ) → Has (kept_items nodes used) (Failed i) → (i < length nodes) × (get_or used i false ≡ true) × (is_always (get_or nodes i True) ≡ true)
-  failed-only i had =
+  failed_only_there : (i : ℕ) → Has (kept_items nodes used) (Failed i) → (i < length nodes) × (get_or used i false ≡ true) × (is_always (get_or nodes i True) ≡ true)
+  failed_only_there i had =
       let r = below_cases (length nodes) (Failed i) had in
       elim (at_cases r.0 (Failed i) r.2) [
         | inl (h, e) ↦ absurd (never r.0 i e)
         | inr (f, e) ↦
             let at : r.0 ≡ i = failed_is r.0 i e in
-            let p = failed-from i (subst (λ (j : ℕ). failed_test j ≡ true) at f) in
+            let p = failed_from i (subst (λ (j : ℕ). failed_test j ≡ true) at f) in
             (omega (arith, r.1), p.0, p.1)
       ]
 
@@ -194,10 +194,10 @@ module _ (nodes : List Node) (used : List Bool) where
             ]
       ]
 
-  rising-one : (b : Bool) (x : Item) → Rising (cond b (x ∷ []) [])
+  rising_one : (b : Bool) (x : Item) → Rising (cond b (x ∷ []) [])
   unfolding Rising
-  rising-one true x j k d l m = absurd (omega arith)
-  rising-one false x j k d l m = absurd (omega arith)
+  rising_one true x j k d l m = absurd (omega arith)
+  rising_one false x j k d l m = absurd (omega arith)
 
   rank_at : (k : ℕ) (x : Item) → Has (items_at nodes used k) x → (2 * k ≤ rank x) × (rank x < 2 * (k + 1))
   rank_at k x had =
@@ -210,15 +210,15 @@ module _ (nodes : List Node) (used : List Bool) where
   rising_at k =
       subst Rising (sym (items_at_is k))
       (rising-append (cond (held_test k) (Held k ∷ []) []) (cond (failed_test k) (Failed k ∷ []) [])
-      (rising-one (held_test k) (Held k)) (rising-one (failed_test k) (Failed k))
+      (rising_one (held_test k) (Held k)) (rising_one (failed_test k) (Failed k))
       (λ x y hx hy.
       omega (arith, ap rank (has_one (held_test k) (Held k) x hx).1, ap rank (has_one (failed_test k) (Failed k) y hy).1)))
 
-  rising-below : (k : ℕ) → Rising (items_below nodes used k)
+  rising_below : (k : ℕ) → Rising (items_below nodes used k)
   unfolding Rising
-  rising-below zero = λ j k d l m. absurd (omega arith)
-  rising-below (suc k) =
-      rising-append (items_below nodes used k) (items_at nodes used k) (rising-below k) (rising_at k)
+  rising_below zero = λ j k d l m. absurd (omega arith)
+  rising_below (suc k) =
+      rising-append (items_below nodes used k) (items_at nodes used k) (rising_below k) (rising_at k)
       (λ x y hx hy.
       let r = below_cases k x hx in
       omega (arith, r.1, (rank_at r.0 x r.2).1, (rank_at k y hy).0))
@@ -226,9 +226,9 @@ module _ (nodes : List Node) (used : List Bool) where
   pub selected : Selected nodes used (kept_items nodes used)
   unfolding Rising
   selected = record {
-    held_kept = λ i l u r. below-has (length nodes) i (Held i) l (at_held i (held_to i u r));
-    held_only = held-only;
-    failed_kept = λ i l u e. below-has (length nodes) i (Failed i) l (at_failed i (failed_to i u e));
-    failed_only = failed-only;
-    rising = rising-below (length nodes);
+    held_kept = λ i l u r. below_has (length nodes) i (Held i) l (at_held i (held_to i u r));
+    held_only = held_only_there;
+    failed_kept = λ i l u e. below_has (length nodes) i (Failed i) l (at_failed i (failed_to i u e));
+    failed_only = failed_only_there;
+    rising = rising_below (length nodes);
   }

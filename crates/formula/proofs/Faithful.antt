@@ -6,34 +6,34 @@ use Rattle.std.proofs.lemmas.List.{append-nil, append_assoc, length_push, get_or
 use Rattle.std.proofs.lemmas.Bool.{and_parts, and_from, ltb-true, lt-ltb, cases_lt}
 use Rattle.register.specs.Keys.{Decides, Kept, place_of, enter}
 use Rattle.register.proofs.Keys.{place_of_at, place_of_before, enter_both}
-use Rattle.register.proofs.Steps.{kept-none}
+use Rattle.register.proofs.Steps.{kept_none}
 use Rattle.formula.specs.declared.Node.{Node}
 use Rattle.formula.specs.declared.Node.TheVariants.{Label, True, Not, And, Or, Previous, Since, Always, Once}
 use Rattle.formula.specs.Formulas.{Formula, truth, tree_of, formulas, operands_below, earlier_from, earlier}
 use Rattle.formula.specs.Merging.{same_node, renumbered, Merged, merge_one, merge_from, Faithful}
-use Rattle.formula.proofs.Trees.{formulas-push, length-formulas, formulas_at, operands_below-more, earlier_at, earlier-push}
+use Rattle.formula.proofs.Trees.{formulas-push, length-formulas, formulas_at, operands_below_more, earlier_at, earlier-push}
 use Rattle.formula.proofs.Apart.{tree_of_apart}
 use Rattle.formula.proofs.KeptTrees.{kept_there, kept_new}
 
 pub same_node_decides : Decides same_node
 same_node_decides = search rules
 
-renumbered-below : (ks : List ℕ) (k m : ℕ) (w : Node) → operands_below k w ≡ true → ((i : ℕ) → i < k → get_or ks i 0 < m) → operands_below m (renumbered ks w) ≡ true
-renumbered-below ks k m (Label p) h low = refl
-renumbered-below ks k m True h low = refl
-renumbered-below ks k m (Not a) h low = lt-ltb (get_or ks a 0) m (low a (ltb-true a k h))
-renumbered-below ks k m (And a b) h low =
+renumbered_below : (ks : List ℕ) (k m : ℕ) (w : Node) → operands_below k w ≡ true → ((i : ℕ) → i < k → get_or ks i 0 < m) → operands_below m (renumbered ks w) ≡ true
+renumbered_below ks k m (Label p) h low = refl
+renumbered_below ks k m True h low = refl
+renumbered_below ks k m (Not a) h low = lt-ltb (get_or ks a 0) m (low a (ltb-true a k h))
+renumbered_below ks k m (And a b) h low =
     let p = and_parts (ltb a k) (ltb b k) h in
     and_from _ _ (lt-ltb (get_or ks a 0) m (low a (ltb-true a k p.0))) (lt-ltb (get_or ks b 0) m (low b (ltb-true b k p.1)))
-renumbered-below ks k m (Or a b) h low =
+renumbered_below ks k m (Or a b) h low =
     let p = and_parts (ltb a k) (ltb b k) h in
     and_from _ _ (lt-ltb (get_or ks a 0) m (low a (ltb-true a k p.0))) (lt-ltb (get_or ks b 0) m (low b (ltb-true b k p.1)))
-renumbered-below ks k m (Previous a) h low = lt-ltb (get_or ks a 0) m (low a (ltb-true a k h))
-renumbered-below ks k m (Since a b) h low =
+renumbered_below ks k m (Previous a) h low = lt-ltb (get_or ks a 0) m (low a (ltb-true a k h))
+renumbered_below ks k m (Since a b) h low =
     let p = and_parts (ltb a k) (ltb b k) h in
     and_from _ _ (lt-ltb (get_or ks a 0) m (low a (ltb-true a k p.0))) (lt-ltb (get_or ks b 0) m (low b (ltb-true b k p.1)))
-renumbered-below ks k m (Always a) h low = lt-ltb (get_or ks a 0) m (low a (ltb-true a k h))
-renumbered-below ks k m (Once a) h low = lt-ltb (get_or ks a 0) m (low a (ltb-true a k h))
+renumbered_below ks k m (Always a) h low = lt-ltb (get_or ks a 0) m (low a (ltb-true a k h))
+renumbered_below ks k m (Once a) h low = lt-ltb (get_or ks a 0) m (low a (ltb-true a k h))
 
 renumbered_tree : (ts us : List Formula) (ks : List ℕ) (k : ℕ) (w : Node) → operands_below k w ≡ true → ((i : ℕ) → i < k → get_or us (get_or ks i 0) truth ≡ get_or ts i truth) → tree_of us (renumbered ks w) ≡ tree_of ts w
 renumbered_tree ts us ks k (Label p) h same = refl
@@ -86,7 +86,7 @@ last_tree came w =
 
 module _ (came held : List Node) (numbers : List ℕ) (w : Node) (sound : Sound came held numbers) (low : operands_below (length came) w ≡ true) where
   low_node : operands_below (length held) (renumbered numbers w) ≡ true
-  low_node = renumbered-below numbers (length came) (length held) w low sound.range
+  low_node = renumbered_below numbers (length came) (length held) w low sound.range
 
   node_tree : tree_of (formulas held) (renumbered numbers w) ≡ tree_of (formulas came) w
   node_tree = renumbered_tree (formulas came) (formulas held) numbers (length came) w low sound.same
@@ -96,7 +96,7 @@ module _ (came held : List Node) (numbers : List ℕ) (w : Node) (sound : Sound 
   only_node p l e =
       let long : length held ≡ length (formulas held) = sym (length-formulas held) in
       tree_of_apart (formulas held) (get_or held p True) (renumbered numbers w) sound.kept.once
-      (operands_below-more p (length (formulas held)) (get_or held p True) (omega arith) (earlier_at held p sound.early l))
+      (operands_below_more p (length (formulas held)) (get_or held p True) (omega arith) (earlier_at held p sound.early l))
       (subst (λ (j : ℕ). operands_below j (renumbered numbers w) ≡ true) long low_node)
       (sym (formulas_at held p sound.early l) ∙ e ∙ sym node_tree)
 
@@ -154,14 +154,14 @@ module _ (came held : List Node) (numbers : List ℕ) (w : Node) (sound : Sound 
       subst (λ (p : ℕ). Sound (came ++ (w ∷ [])) (held ++ (n ∷ [])) (numbers ++ (p ∷ []))) (sym e)
       (sound_new (λ p l at. place_of_before same_node same_node_decides n held p True (omega arith) at)))
 
-sound-all : (came ws : List Node) (m : Merged) → Sound came m.held m.numbers → earlier_from (length came) ws ≡ true → Sound (came ++ ws) (merge_from m ws).held (merge_from m ws).numbers
-sound-all came [] m sound h = subst (λ cs. Sound cs m.held m.numbers) (sym (append-nil came)) sound
-sound-all came (w ∷ ws) m sound h =
+sound_all : (came ws : List Node) (m : Merged) → Sound came m.held m.numbers → earlier_from (length came) ws ≡ true → Sound (came ++ ws) (merge_from m ws).held (merge_from m ws).numbers
+sound_all came [] m sound h = subst (λ cs. Sound cs m.held m.numbers) (sym (append-nil came)) sound
+sound_all came (w ∷ ws) m sound h =
     let p = and_parts (operands_below (length came) w) (earlier_from (suc (length came)) ws) h in
     let long : suc (length came) ≡ length (came ++ (w ∷ [])) = omega (arith, length_push came w) in
     let m' = merge_one m w in
     subst (λ cs. Sound cs (merge_from m' ws).held (merge_from m' ws).numbers) (append_assoc came (w ∷ []) ws)
-    (sound-all (came ++ (w ∷ [])) ws m' (sound_more came m.held m.numbers w sound p.0)
+    (sound_all (came ++ (w ∷ [])) ws m' (sound_more came m.held m.numbers w sound p.0)
     (subst (λ (j : ℕ). earlier_from j ws ≡ true) long p.1))
 
 pub faithful : (ws : List Node) → earlier ws ≡ true → Faithful ws
@@ -171,9 +171,9 @@ faithful ws h =
       early = refl;
       range = λ i l. absurd (omega arith);
       same = λ i l. absurd (omega arith);
-      kept = kept-none;
+      kept = kept_none;
     } in
-    let sound = sound-all [] ws (record { held = []; numbers = [] }) none h in
+    let sound = sound_all [] ws (record { held = []; numbers = [] }) none h in
     record {
       formulas_kept = sound.kept;
       same_formula = sound.same;

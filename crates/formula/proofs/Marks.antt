@@ -8,14 +8,14 @@ use Rattle.formula.specs.declared.Node.TheVariants.{True}
 use Rattle.formula.specs.Formulas.{earlier}
 use Rattle.formula.specs.Resting.{operands, Rests, root, below, all_marked, spread, resting, Exact}
 use Rattle.formula.proofs.Trees.{earlier_at}
-use Rattle.formula.proofs.Apart.{operands-below}
+use Rattle.formula.proofs.Apart.{operands_are_below}
 
 -- membership in a list that begins with a
 has_first : (a : ℕ) (as' : List ℕ) (i : ℕ) → a ≡ i → Has (a ∷ as') i
 has_first a as' i e = (0, omega arith, λ d. e)
 
-has-later : (a : ℕ) (as' : List ℕ) (i : ℕ) → Has as' i → Has (a ∷ as') i
-has-later a as' i (k, l, at) = (suc k, omega arith, at)
+has_later : (a : ℕ) (as' : List ℕ) (i : ℕ) → Has as' i → Has (a ∷ as') i
+has_later a as' i (k, l, at) = (suc k, omega arith, at)
 
 has_cases : (a : ℕ) (as' : List ℕ) (i : ℕ) → Has (a ∷ as') i → (a ≡ i) ⊎ Has as' i
 has_cases a as' i (zero, l, at) = inl (at 0)
@@ -48,20 +48,20 @@ all_marked_stays ms [] i h = h
 all_marked_stays ms (a ∷ as') i h = all_marked_stays (set ms a true) as' i (set_stays ms a i h)
 
 -- what was to be marked is
-all_marked-marks : (ms : List Bool) (as' : List ℕ) (i : ℕ) → Has as' i → i < length ms → get_or (all_marked ms as') i false ≡ true
-all_marked-marks ms [] i had l = absurd (none_has i had)
-all_marked-marks ms (a ∷ as') i had l =
+all_marked_marks : (ms : List Bool) (as' : List ℕ) (i : ℕ) → Has as' i → i < length ms → get_or (all_marked ms as') i false ≡ true
+all_marked_marks ms [] i had l = absurd (none_has i had)
+all_marked_marks ms (a ∷ as') i had l =
     elim (has_cases a as' i had) [
       | inl e ↦ all_marked_stays (set ms a true) as' i (subst (λ (j : ℕ). get_or (set ms j true) i false ≡ true) (sym e) (get_or-set_same ms i true false l))
-      | inr rest ↦ all_marked-marks (set ms a true) as' i rest (omega (arith, length-set ms a true))
+      | inr rest ↦ all_marked_marks (set ms a true) as' i rest (omega (arith, length-set ms a true))
     ]
 
 -- and nothing else
-all_marked-from : (ms : List Bool) (as' : List ℕ) (i : ℕ) → get_or (all_marked ms as') i false ≡ true → Has as' i ⊎ (get_or ms i false ≡ true)
-all_marked-from ms [] i h = inr h
-all_marked-from ms (a ∷ as') i h =
-    elim (all_marked-from (set ms a true) as' i h) [
-      | inl had ↦ inl (has-later a as' i had)
+all_marked_from : (ms : List Bool) (as' : List ℕ) (i : ℕ) → get_or (all_marked ms as') i false ≡ true → Has as' i ⊎ (get_or ms i false ≡ true)
+all_marked_from ms [] i h = inr h
+all_marked_from ms (a ∷ as') i h =
+    elim (all_marked_from (set ms a true) as' i h) [
+      | inl had ↦ inl (has_later a as' i had)
       | inr was ↦ elim (set-from ms a i was) [ inl e ↦ inl (has_first a as' i e) | inr old ↦ inr old ]
     ]
 
@@ -88,11 +88,11 @@ module _ (nodes : List Node) where
       cond_both (get_or ms k false) (all_marked ms (operands (get_or nodes k True))) ms (λ r. get_or r i false ≡ true)
       (λ _. all_marked_stays ms (operands (get_or nodes k True)) i h) (λ _. h)
 
-  turned-marks : (k : ℕ) (ms : List Bool) (i : ℕ) → get_or ms k false ≡ true → Has (operands (get_or nodes k True)) i → i < length ms → get_or (turned k ms) i false ≡ true
+  turned_marks : (k : ℕ) (ms : List Bool) (i : ℕ) → get_or ms k false ≡ true → Has (operands (get_or nodes k True)) i → i < length ms → get_or (turned k ms) i false ≡ true
   unfolding turned
-  turned-marks k ms i here had l =
+  turned_marks k ms i here had l =
       subst (λ r. get_or r i false ≡ true) (sym (cond-true (get_or ms k false) (all_marked ms (operands (get_or nodes k True))) ms here))
-      (all_marked-marks ms (operands (get_or nodes k True)) i had l)
+      (all_marked_marks ms (operands (get_or nodes k True)) i had l)
 
   turned_high : (k : ℕ) (ms : List Bool) (i : ℕ) → All (λ a. a < k) (operands (get_or nodes k True)) → k ≤ i → get_or (turned k ms) i false ≡ get_or ms i false
   unfolding turned
@@ -100,61 +100,61 @@ module _ (nodes : List Node) where
       cond_both (get_or ms k false) (all_marked ms (operands (get_or nodes k True))) ms (λ r. get_or r i false ≡ get_or ms i false)
       (λ _. all_marked_high ms (operands (get_or nodes k True)) k i low l) (λ _. refl)
 
-  spread-step : (k : ℕ) (ms : List Bool) → spread nodes (suc k) ms ≡ spread nodes k (turned k ms)
+  spread_step : (k : ℕ) (ms : List Bool) → spread nodes (suc k) ms ≡ spread nodes k (turned k ms)
   unfolding turned
-  spread-step k ms = refl
+  spread_step k ms = refl
 
   pub length-spread : (k : ℕ) (ms : List Bool) → length (spread nodes k ms) ≡ length ms
   length-spread zero ms = refl
-  length-spread (suc k) ms = ap length (spread-step k ms) ∙ length-spread k (turned k ms) ∙ length-turned k ms
+  length-spread (suc k) ms = ap length (spread_step k ms) ∙ length-spread k (turned k ms) ∙ length-turned k ms
 
   spread_stays : (k : ℕ) (ms : List Bool) (i : ℕ) → get_or ms i false ≡ true → get_or (spread nodes k ms) i false ≡ true
   spread_stays zero ms i h = h
   spread_stays (suc k) ms i h =
-      ap (λ r. get_or r i false) (spread-step k ms) ∙ spread_stays k (turned k ms) i (turned_stays k ms i h)
+      ap (λ r. get_or r i false) (spread_step k ms) ∙ spread_stays k (turned k ms) i (turned_stays k ms i h)
 
-  low-operands : earlier nodes ≡ true → (k : ℕ) → k < length nodes → All (λ a. a < k) (operands (get_or nodes k True))
-  low-operands h k l = operands-below k (get_or nodes k True) (earlier_at nodes k h l)
+  low_operands : earlier nodes ≡ true → (k : ℕ) → k < length nodes → All (λ a. a < k) (operands (get_or nodes k True))
+  low_operands h k l = operands_are_below k (get_or nodes k True) (earlier_at nodes k h l)
 
   spread_high : earlier nodes ≡ true → (k : ℕ) (ms : List Bool) (i : ℕ) → k ≤ length nodes → k ≤ i → get_or (spread nodes k ms) i false ≡ get_or ms i false
   spread_high h zero ms i m l = refl
   spread_high h (suc k) ms i m l =
-      ap (λ r. get_or r i false) (spread-step k ms)
+      ap (λ r. get_or r i false) (spread_step k ms)
       ∙ spread_high h k (turned k ms) i (omega arith) (omega arith)
-      ∙ turned_high k ms i (low-operands h k (omega arith)) (omega arith)
+      ∙ turned_high k ms i (low_operands h k (omega arith)) (omega arith)
 
   -- the operands of a marked node are marked
-  spread-closed : earlier nodes ≡ true → (k : ℕ) (ms : List Bool) (i a : ℕ) → k ≤ length nodes → i < k → get_or (spread nodes k ms) i false ≡ true → Has (operands (get_or nodes i True)) a → a < length ms → get_or (spread nodes k ms) a false ≡ true
-  spread-closed h zero ms i a m l marked had in' = absurd (omega arith)
-  spread-closed h (suc k) ms i a m l marked had in' =
-      let after = ap (λ r. get_or r a false) (spread-step k ms) in
-      let marked' : get_or (spread nodes k (turned k ms)) i false ≡ true = sym (ap (λ r. get_or r i false) (spread-step k ms)) ∙ marked in
+  spread_closed : earlier nodes ≡ true → (k : ℕ) (ms : List Bool) (i a : ℕ) → k ≤ length nodes → i < k → get_or (spread nodes k ms) i false ≡ true → Has (operands (get_or nodes i True)) a → a < length ms → get_or (spread nodes k ms) a false ≡ true
+  spread_closed h zero ms i a m l marked had in' = absurd (omega arith)
+  spread_closed h (suc k) ms i a m l marked had in' =
+      let after = ap (λ r. get_or r a false) (spread_step k ms) in
+      let marked' : get_or (spread nodes k (turned k ms)) i false ≡ true = sym (ap (λ r. get_or r i false) (spread_step k ms)) ∙ marked in
       elim (cases_lt i k) [
-        | inl less ↦ after ∙ spread-closed h k (turned k ms) i a (omega arith) less marked' had (omega (arith, length-turned k ms))
+        | inl less ↦ after ∙ spread_closed h k (turned k ms) i a (omega arith) less marked' had (omega (arith, length-turned k ms))
         | inr past ↦
             let at : i ≡ k = omega arith in
             let was : get_or ms k false ≡ true =
-            sym (turned_high k ms k (low-operands h k (omega arith)) (omega arith))
+            sym (turned_high k ms k (low_operands h k (omega arith)) (omega arith))
             ∙ sym (spread_high h k (turned k ms) k (omega arith) (omega arith))
             ∙ subst (λ (j : ℕ). get_or (spread nodes k (turned k ms)) j false ≡ true) at marked' in
             after
             ∙ spread_stays k (turned k ms) a
-            (turned-marks k ms a was (subst (λ (j : ℕ). Has (operands (get_or nodes j True)) a) at had) in')
+            (turned_marks k ms a was (subst (λ (j : ℕ). Has (operands (get_or nodes j True)) a) at had) in')
       ]
 
   module _ (roots : List ℕ) where
-    turned-only : (k : ℕ) (ms : List Bool) → ((i : ℕ) → get_or ms i false ≡ true → Rests nodes roots i) → (i : ℕ) → get_or (turned k ms) i false ≡ true → Rests nodes roots i
+    turned_only : (k : ℕ) (ms : List Bool) → ((i : ℕ) → get_or ms i false ≡ true → Rests nodes roots i) → (i : ℕ) → get_or (turned k ms) i false ≡ true → Rests nodes roots i
     unfolding turned
-    turned-only k ms sound i =
+    turned_only k ms sound i =
         cond_both (get_or ms k false) (all_marked ms (operands (get_or nodes k True))) ms (λ r. get_or r i false ≡ true → Rests nodes roots i)
-        (λ here h. elim (all_marked-from ms (operands (get_or nodes k True)) i h) [ inl had ↦ below (sound k here) had | inr was ↦ sound i was ])
+        (λ here h. elim (all_marked_from ms (operands (get_or nodes k True)) i h) [ inl had ↦ below (sound k here) had | inr was ↦ sound i was ])
         (λ _. sound i)
 
     -- every mark is of a node that rests
-    spread-only : (k : ℕ) (ms : List Bool) → ((i : ℕ) → get_or ms i false ≡ true → Rests nodes roots i) → (i : ℕ) → get_or (spread nodes k ms) i false ≡ true → Rests nodes roots i
-    spread-only zero ms sound i h = sound i h
-    spread-only (suc k) ms sound i h =
-        spread-only k (turned k ms) (turned-only k ms sound) i (sym (ap (λ r. get_or r i false) (spread-step k ms)) ∙ h)
+    spread_only : (k : ℕ) (ms : List Bool) → ((i : ℕ) → get_or ms i false ≡ true → Rests nodes roots i) → (i : ℕ) → get_or (spread nodes k ms) i false ≡ true → Rests nodes roots i
+    spread_only zero ms sound i h = sound i h
+    spread_only (suc k) ms sound i h =
+        spread_only k (turned k ms) (turned_only k ms sound) i (sym (ap (λ r. get_or r i false) (spread_step k ms)) ∙ h)
 
     unmarked : (n i : ℕ) → get_or (replicate n false) i false ≡ false
     unmarked n i =
@@ -163,9 +163,9 @@ module _ (nodes : List Node) where
           | inr past ↦ get_or_past (replicate n false) i false (omega (arith, length-replicate n false))
         ]
 
-    first-only : (i : ℕ) → get_or (all_marked (replicate (length nodes) false) roots) i false ≡ true → Rests nodes roots i
-    first-only i h =
-        elim (all_marked-from (replicate (length nodes) false) roots i h) [
+    first_only : (i : ℕ) → get_or (all_marked (replicate (length nodes) false) roots) i false ≡ true → Rests nodes roots i
+    first_only i h =
+        elim (all_marked_from (replicate (length nodes) false) roots i h) [
           | inl had ↦ root had
           | inr was ↦ absurd (both_ways (get_or (replicate (length nodes) false) i false) (unmarked (length nodes) i) was)
         ]
@@ -181,11 +181,11 @@ module _ (nodes : List Node) where
     rests_marked : earlier nodes ≡ true → (i : ℕ) → Rests nodes roots i → i < length nodes → get_or (resting nodes roots) i false ≡ true
     rests_marked h i (root had) l =
         spread_stays (length nodes) (all_marked (replicate (length nodes) false) roots) i
-        (all_marked-marks (replicate (length nodes) false) roots i had (omega (arith, length-replicate (length nodes) false)))
+        (all_marked_marks (replicate (length nodes) false) roots i had (omega (arith, length-replicate (length nodes) false)))
     rests_marked h a (below {i} rests had) l =
         elim (cases_lt i (length nodes)) [
           | inl in' ↦
-              spread-closed h (length nodes) (all_marked (replicate (length nodes) false) roots) i a (omega arith) in'
+              spread_closed h (length nodes) (all_marked (replicate (length nodes) false) roots) i a (omega arith) in'
               (rests_marked h i rests in') had (omega (arith, length-first))
           | inr past ↦ absurd (no_operands i a past had)
         ]
@@ -196,5 +196,5 @@ module _ (nodes : List Node) where
     pub exact : earlier nodes ≡ true → Exact nodes roots
     exact h = record {
       every = λ i l rests. rests_marked h i rests l;
-      only = λ i l marked. spread-only (length nodes) (all_marked (replicate (length nodes) false) roots) first-only i marked;
+      only = λ i l marked. spread_only (length nodes) (all_marked (replicate (length nodes) false) roots) first_only i marked;
     }

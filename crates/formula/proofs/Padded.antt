@@ -37,26 +37,26 @@ rested-length nodes roots ms (few, e) =
     ∙ omega (arith, length-append (resting nodes roots) (replicate (128 - length nodes) false), length-resting nodes roots, length-replicate (128 - length nodes) false)
 
 module _ (nodes : List Node) (used used' : List Bool) (same : (i : ℕ) → get_or used i false ≡ get_or used' i false) where
-  back-same : (k i : ℕ) → back_below nodes used k i ≡ back_below nodes used' k i
-  back-same zero i = refl
-  back-same (suc k) i =
-      ap (λ b. b || (get_or used k false && looks_back i (get_or nodes k True))) (back-same k i)
+  back_same : (k i : ℕ) → back_below nodes used k i ≡ back_below nodes used' k i
+  back_same zero i = refl
+  back_same (suc k) i =
+      ap (λ b. b || (get_or used k false && looks_back i (get_or nodes k True))) (back_same k i)
       ∙ ap (λ u. back_below nodes used' k i || (u && looks_back i (get_or nodes k True))) (same k)
 
   at_same : (i : ℕ) → items_at nodes used i ≡ items_at nodes used' i
   at_same i =
-      ap (λ b. cond (get_or used i false && (lasting (get_or nodes i True) || b)) (Held i ∷ []) [] ++ cond (get_or used i false && is_always (get_or nodes i True)) (Failed i ∷ []) []) (back-same (length nodes) i)
+      ap (λ b. cond (get_or used i false && (lasting (get_or nodes i True) || b)) (Held i ∷ []) [] ++ cond (get_or used i false && is_always (get_or nodes i True)) (Failed i ∷ []) []) (back_same (length nodes) i)
       ∙ ap (λ u. cond (u && (lasting (get_or nodes i True) || back_below nodes used' (length nodes) i)) (Held i ∷ []) [] ++ cond (u && is_always (get_or nodes i True)) (Failed i ∷ []) []) (same i)
 
-  below-same : (k : ℕ) → items_below nodes used k ≡ items_below nodes used' k
-  below-same zero = refl
-  below-same (suc k) =
-      ap (λ l. l ++ items_at nodes used k) (below-same k) ∙ ap (λ l. items_below nodes used' k ++ l) (at_same k)
+  below_same : (k : ℕ) → items_below nodes used k ≡ items_below nodes used' k
+  below_same zero = refl
+  below_same (suc k) =
+      ap (λ l. l ++ items_at nodes used k) (below_same k) ∙ ap (λ l. items_below nodes used' k ++ l) (at_same k)
 
   -- what is kept depends on the marks alone
   pub kept_same : kept_items nodes used ≡ kept_items nodes used'
-  kept_same = below-same (length nodes)
+  kept_same = below_same (length nodes)
 
 -- and so are the items that they keep
-pub kept-rested : (nodes : List Node) (roots : List ℕ) (ms : List Bool) → Rested nodes roots (Some ms) → kept_items nodes ms ≡ kept_items nodes (resting nodes roots)
-kept-rested nodes roots ms r = kept_same nodes ms (resting nodes roots) (rested_at nodes roots ms r)
+pub kept_rested : (nodes : List Node) (roots : List ℕ) (ms : List Bool) → Rested nodes roots (Some ms) → kept_items nodes ms ≡ kept_items nodes (resting nodes roots)
+kept_rested nodes roots ms r = kept_same nodes ms (resting nodes roots) (rested_at nodes roots ms r)

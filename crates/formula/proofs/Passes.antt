@@ -10,8 +10,8 @@ use Rattle.formula.specs.Resting.{operands, all_marked, spread, resting}
 pub past_unmarked : (ms : List Bool) (i : ℕ) → length ms ≤ i → ltb i (length ms) ≡ get_or ms i false
 past_unmarked ms i l = le-ltb i (length ms) l ∙ sym (get_or_past ms i false l)
 
-pub all_marked-more : (ms ms' : List Bool) (as' : List ℕ) (i : ℕ) → i < length as' → ms' ≡ set ms (get_or as' i 0) true → all_marked ms' (drop (i + 1) as') ≡ all_marked ms (drop i as')
-all_marked-more ms ms' as' i l e =
+pub all_marked_more : (ms ms' : List Bool) (as' : List ℕ) (i : ℕ) → i < length as' → ms' ≡ set ms (get_or as' i 0) true → all_marked ms' (drop (i + 1) as') ≡ all_marked ms (drop i as')
+all_marked_more ms ms' as' i l e =
     let step : all_marked ms (drop i as') ≡ all_marked (set ms (get_or as' i 0) true) (drop (i + 1) as') =
     at_drop_more (all_marked ms) as' i 0 l in
     ap (λ m. all_marked m (drop (i + 1) as')) e ∙ sym step
@@ -24,15 +24,15 @@ spread_down nodes ms i l =
     let e : suc (i - 1) ≡ i = omega arith in ap (λ (j : ℕ). spread nodes j ms) (sym e)
 
 -- node i - 1 is marked, and so are its operands
-pub spread-marked : (nodes : List Node) (ms ms' : List Bool) (i : ℕ) (d : Node) → 0 < i → i ≤ length nodes → get_or ms (i - 1) false ≡ true → ms' ≡ all_marked ms (operands (get_or nodes (i - 1) d)) → spread nodes (i - 1) ms' ≡ spread nodes i ms
-spread-marked nodes ms ms' i d l m here e =
+pub spread_marked : (nodes : List Node) (ms ms' : List Bool) (i : ℕ) (d : Node) → 0 < i → i ≤ length nodes → get_or ms (i - 1) false ≡ true → ms' ≡ all_marked ms (operands (get_or nodes (i - 1) d)) → spread nodes (i - 1) ms' ≡ spread nodes i ms
+spread_marked nodes ms ms' i d l m here e =
     let same = get_or_default nodes (i - 1) d True (omega arith) in
     ap (spread nodes (i - 1)) (e ∙ ap (λ n. all_marked ms (operands n)) same ∙ sym (cond-true (get_or ms (i - 1) false) (all_marked ms (operands (get_or nodes (i - 1) True))) ms here))
     ∙ sym (spread_down nodes ms i l)
 
 -- or it is not
-pub spread-unmarked : (nodes : List Node) (ms : List Bool) (i : ℕ) → 0 < i → get_or ms (i - 1) false ≡ false → spread nodes (i - 1) ms ≡ spread nodes i ms
-spread-unmarked nodes ms i l here =
+pub spread_unmarked : (nodes : List Node) (ms : List Bool) (i : ℕ) → 0 < i → get_or ms (i - 1) false ≡ false → spread nodes (i - 1) ms ≡ spread nodes i ms
+spread_unmarked nodes ms i l here =
     ap (spread nodes (i - 1)) (sym (cond-false (get_or ms (i - 1) false) (all_marked ms (operands (get_or nodes (i - 1) True))) ms here))
     ∙ sym (spread_down nodes ms i l)
 

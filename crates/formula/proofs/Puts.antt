@@ -17,8 +17,8 @@ put_one false item len items e l = absurd (both_ways false refl e)
 abbrev pub Filled : List Item → List Item → ℕ → List Item → Type 0
 Filled start items len xs = (len ≤ length items) × (take len items ≡ xs) × (drop len items ≡ drop len start) × (length items ≡ length start)
 
-pub put-more : (start items items' xs more : List Item) (len n : ℕ) → Filled start items len xs → Appended more len items items' (Some n) → length items' ≡ length items → Filled start items' n (xs ++ more)
-put-more start items items' xs more len n (fits, first, rest, long) (n-is, added, kept, in') same = (
+pub put_more : (start items items' xs more : List Item) (len n : ℕ) → Filled start items len xs → Appended more len items items' (Some n) → length items' ≡ length items → Filled start items' n (xs ++ more)
+put_more start items items' xs more len n (fits, first, rest, long) (n-is, added, kept, in') same = (
   omega (arith, in' fits),
   added ∙ ap (λ l. l ++ more) first,
   kept ∙ drop_further items start len n (omega arith) rest,
@@ -30,8 +30,8 @@ length-one true x = omega arith
 length-one false x = omega arith
 
 -- one item more finds no room
-put-over : (start items xs rest kept : List Item) (b : Bool) (x : Item) (len : ℕ) → Filled start items len xs → length items < len + length (cond b (x ∷ []) []) → kept ≡ xs ++ (cond b (x ∷ []) [] ++ rest) → (length start < length kept) × (items ≡ take (length start) kept)
-put-over start items xs rest kept b x len (fits, first, rest-is, long) over all =
+put_over : (start items xs rest kept : List Item) (b : Bool) (x : Item) (len : ℕ) → Filled start items len xs → length items < len + length (cond b (x ∷ []) []) → kept ≡ xs ++ (cond b (x ∷ []) [] ++ rest) → (length start < length kept) × (items ≡ take (length start) kept)
+put_over start items xs rest kept b x len (fits, first, rest-is, long) over all =
     let full : length items ≡ len = omega (arith, length-one b x) in
     let whole : items ≡ xs = sym (take_all len items (omega arith)) ∙ first in
     let size : length xs ≡ length start = sym (ap length whole) ∙ long in (
@@ -78,26 +78,26 @@ module _ (nodes : List Node) (used : List Bool) where
         ∙ ap (λ l. items_below nodes used i ++ l) (sym at_node)
         ∙ ap (items_below nodes used) e
 
-    all-items : (rest : List Item) × (kept_items nodes used ≡ (items_below nodes used i ++ (cond h (Held i ∷ []) [])) ++ (cond f (Failed i ∷ []) [] ++ rest))
-    all-items =
+    all_items : (rest : List Item) × (kept_items nodes used ≡ (items_below nodes used i ++ (cond h (Held i ∷ []) [])) ++ (cond f (Failed i ∷ []) [] ++ rest))
+    all_items =
         let r = front (length nodes) (i + 1) (omega arith) in
         (r.0, r.1 ∙ ap (λ l. l ++ r.0) (sym next) ∙ append_assoc (items_below nodes used i ++ cond h (Held i ∷ []) []) (cond f (Failed i ∷ []) []) r.0)
 
-    pub refused-held : (start items items' : List Item) (len : ℕ) (r : Option ℕ) → length nodes ≤ 128 → Filled start items len (items_below nodes used i) → Appended (cond h (Held i ∷ []) []) len items items' None → r ≡ None → Keeps nodes used start items' r
-    refused-held start items items' len r few filled (over, same) r-is =
-        let a = all-items in
+    pub refused_held : (start items items' : List Item) (len : ℕ) (r : Option ℕ) → length nodes ≤ 128 → Filled start items len (items_below nodes used i) → Appended (cond h (Held i ∷ []) []) len items items' None → r ≡ None → Keeps nodes used start items' r
+    refused_held start items items' len r few filled (over, same) r-is =
+        let a = all_items in
         let s =
-        put-over start items (items_below nodes used i) (cond f (Failed i ∷ []) [] ++ a.0) (kept_items nodes used) h (Held i) len filled over
+        put_over start items (items_below nodes used i) (cond f (Failed i ∷ []) [] ++ a.0) (kept_items nodes used) h (Held i) len filled over
         (a.1 ∙ append_assoc (items_below nodes used i) (cond h (Held i ∷ []) []) (cond f (Failed i ∷ []) [] ++ a.0)) in
         subst (Keeps nodes used start items') (sym r-is) (inr (few, s.0, same ∙ s.1))
 
-    pub refused-failed : (start items items' : List Item) (len : ℕ) (r : Option ℕ) → length nodes ≤ 128 → Filled start items len (items_below nodes used i ++ cond h (Held i ∷ []) []) → Appended (cond f (Failed i ∷ []) []) len items items' None → r ≡ None → Keeps nodes used start items' r
-    refused-failed start items items' len r few filled (over, same) r-is =
-        let a = all-items in
-        let s = put-over start items (items_below nodes used i ++ cond h (Held i ∷ []) []) a.0 (kept_items nodes used) f (Failed i) len filled over a.1 in
+    pub refused_failed : (start items items' : List Item) (len : ℕ) (r : Option ℕ) → length nodes ≤ 128 → Filled start items len (items_below nodes used i ++ cond h (Held i ∷ []) []) → Appended (cond f (Failed i ∷ []) []) len items items' None → r ≡ None → Keeps nodes used start items' r
+    refused_failed start items items' len r few filled (over, same) r-is =
+        let a = all_items in
+        let s = put_over start items (items_below nodes used i ++ cond h (Held i ∷ []) []) a.0 (kept_items nodes used) f (Failed i) len filled over a.1 in
         subst (Keeps nodes used start items') (sym r-is) (inr (few, s.0, same ∙ s.1))
 
-  pub kept-all : (start items : List Item) (len i : ℕ) → length nodes ≤ 128 → i ≡ length nodes → Filled start items len (items_below nodes used i) → Keeps nodes used start items (Some len)
-  kept-all start items len i few end (fits, first, rest, long) =
+  pub kept_all : (start items : List Item) (len i : ℕ) → length nodes ≤ 128 → i ≡ length nodes → Filled start items len (items_below nodes used i) → Keeps nodes used start items (Some len)
+  kept_all start items len i few end (fits, first, rest, long) =
       let all : take len items ≡ kept_items nodes used = first ∙ ap (items_below nodes used) end in
       (few, omega arith, sym (length-take-le len items fits) ∙ ap length all, all, rest)

@@ -12,8 +12,8 @@ merge_from-append m [] vs = refl
 merge_from-append m (w ∷ ws) vs = merge_from-append (merge_one m w) ws vs
 
 -- one word more
-pub merge_all-more : (ws : List Node) (i : ℕ) (d : Node) → i < length ws → merge_all (take (i + 1) ws) ≡ merge_one (merge_all (take i ws)) (get_or ws i d)
-merge_all-more ws i d l =
+pub merge_all_more : (ws : List Node) (i : ℕ) (d : Node) → i < length ws → merge_all (take (i + 1) ws) ≡ merge_one (merge_all (take i ws)) (get_or ws i d)
+merge_all_more ws i d l =
     ap merge_all (take_more ws i d l) ∙ merge_from-append (record { held = []; numbers = [] }) (take i ws) (get_or ws i d ∷ [])
 
 -- there are at most as many nodes more as words
@@ -41,8 +41,8 @@ split : (ws : List Node) (i : ℕ) → merge_from (merge_all (take i ws)) (drop 
 split ws i =
     sym (merge_from-append (record { held = []; numbers = [] }) (take i ws) (drop i ws)) ∙ ap merge_all (take-append-drop i ws)
 
-pub nodes_of-front : (ws : List Node) (i : ℕ) → take (length (nodes_of (take i ws))) (nodes_of ws) ≡ nodes_of (take i ws)
-nodes_of-front ws i =
+pub nodes_of_front : (ws : List Node) (i : ℕ) → take (length (nodes_of (take i ws))) (nodes_of ws) ≡ nodes_of (take i ws)
+nodes_of_front ws i =
     ap (λ m. take (length (nodes_of (take i ws))) m.held) (sym (split ws i)) ∙ held-take (merge_all (take i ws)) (drop i ws)
 
 pub nodes_of_fewer : (ws : List Node) (i : ℕ) → length (nodes_of (take i ws)) ≤ length (nodes_of ws)
@@ -73,21 +73,21 @@ module _ (ws first keys : List Node) (len : ℕ) (old numbers : List ℕ) (i : �
   its_node =
       node-is ∙ ap (λ (j : ℕ). renumbered (take j numbers) (get_or ws i d)) k-is ∙ ap (λ ks. renumbered ks (get_or ws i d)) reached.numbers_are
 
-  more-nodes : nodes_of (take (i + 1) ws) ≡ enter same_node node (take len keys)
-  more-nodes =
-      ap (λ m. m.held) (merge_all-more ws i d in')
+  more_nodes : nodes_of (take (i + 1) ws) ≡ enter same_node node (take len keys)
+  more_nodes =
+      ap (λ m. m.held) (merge_all_more ws i d in')
       ∙ ap (λ n. enter same_node n (nodes_of (take i ws))) (sym its_node)
       ∙ ap (enter same_node node) (sym reached.nodes_are)
 
   more_numbers : numbers_of (take (i + 1) ws) ≡ numbers_of (take i ws) ++ (place_of same_node node (take len keys) ∷ [])
   more_numbers =
-      ap (λ m. m.numbers) (merge_all-more ws i d in')
+      ap (λ m. m.numbers) (merge_all_more ws i d in')
       ∙ ap (λ n. numbers_of (take i ws) ++ (place_of same_node n (nodes_of (take i ws)) ∷ [])) (sym its_node)
       ∙ ap (λ h. numbers_of (take i ws) ++ (place_of same_node node h ∷ [])) (sym reached.nodes_are)
 
   -- a place is a small number
-  pub place-small : (p : ℕ) → p ≡ place_of same_node node (take len keys) → p ≤ i
-  place-small p e =
+  pub place_small : (p : ℕ) → p ≡ place_of same_node node (take len keys) → p ≤ i
+  place_small p e =
       omega (arith, place_of_le same_node node (take len keys), ap length reached.nodes_are, nodes_of-length (take i ws), length-take-le i ws (omega arith))
 
   pub reached_more : (keys' : List Node) (len' p : ℕ) → len' ≤ length keys' → p ≡ place_of same_node node (take len keys) → take len' keys' ≡ enter same_node node (take len keys) → drop len' keys' ≡ drop len' keys → length keys' ≡ length keys → Reached ws first keys' len' old (set numbers i p) (i + 1)
@@ -96,7 +96,7 @@ module _ (ws first keys : List Node) (len : ℕ) (old numbers : List ℕ) (i : �
       omega (arith, ap length entered, length-take-le len keys fits, length-take-le len' keys' fits', enter-length same_node node (take len keys)) in
       let i-in : i < length numbers = omega (arith, reached.numbers_long) in
       record {
-        nodes_are = entered ∙ sym more-nodes;
+        nodes_are = entered ∙ sym more_nodes;
         nodes_rest = rest ∙ drop_further keys first len len' more reached.nodes_rest;
         nodes_long = long ∙ reached.nodes_long;
         numbers_are =
@@ -117,7 +117,7 @@ module _ (ws first keys : List Node) (len : ℕ) (old numbers : List ℕ) (i : �
       let all : keys' ≡ nodes_of (take i ws) =
       sym (take_all len' keys' (omega (arith, ap length same, length-take-le len' keys' fits'))) ∙ same ∙ reached.nodes_are in
       let grown : length (nodes_of (take (i + 1) ws)) ≡ length (nodes_of (take i ws)) + 1 =
-      ap length (more-nodes ∙ enter_new same_node node (take len keys) (omega arith))
+      ap length (more_nodes ∙ enter_new same_node node (take len keys) (omega arith))
       ∙ length_push (take len keys) node
       ∙ ap (λ h. length h + 1) reached.nodes_are in
       subst (Merges ws start x old numbers) (sym r-is)
@@ -125,7 +125,7 @@ module _ (ws first keys : List Node) (len : ℕ) (old numbers : List ℕ) (i : �
         few = few;
         numbers_fit = room;
         over = omega (arith, nodes_of_fewer ws (i + 1));
-        filled = x-is ∙ all ∙ sym (nodes_of-front ws i) ∙ ap (λ (j : ℕ). take j (nodes_of ws)) size;
+        filled = x-is ∙ all ∙ sym (nodes_of_front ws i) ∙ ap (λ (j : ℕ). take j (nodes_of ws)) size;
         word = i;
         word_in = in';
         full_before = size;

@@ -44,28 +44,28 @@ pub length-formulas : (ns : List Node) → length (formulas ns) ≡ length ns
 length-formulas ns = omega (arith, length-formulas_from [] ns)
 
 -- the trees that were there stay
-pub formulas_from-front : (ts : List Formula) (ns : List Node) (i : ℕ) (d : Formula) → i < length ts → get_or (formulas_from ts ns) i d ≡ get_or ts i d
-formulas_from-front ts [] i d l = refl
-formulas_from-front ts (n ∷ ns) i d l =
-    formulas_from-front (ts ++ (tree_of ts n ∷ [])) ns i d (omega (arith, length_push ts (tree_of ts n)))
+pub formulas_from_front : (ts : List Formula) (ns : List Node) (i : ℕ) (d : Formula) → i < length ts → get_or (formulas_from ts ns) i d ≡ get_or ts i d
+formulas_from_front ts [] i d l = refl
+formulas_from_front ts (n ∷ ns) i d l =
+    formulas_from_front (ts ++ (tree_of ts n ∷ [])) ns i d (omega (arith, length_push ts (tree_of ts n)))
     ∙ get_or_append_left ts (tree_of ts n ∷ []) d i l
 
-pub operands_below-more : (k m : ℕ) (n : Node) → k ≤ m → operands_below k n ≡ true → operands_below m n ≡ true
-operands_below-more k m (Label p) l h = refl
-operands_below-more k m True l h = refl
-operands_below-more k m (Not a) l h = lt-ltb a m (omega (arith, ltb-true a k h))
-operands_below-more k m (And a b) l h =
+pub operands_below_more : (k m : ℕ) (n : Node) → k ≤ m → operands_below k n ≡ true → operands_below m n ≡ true
+operands_below_more k m (Label p) l h = refl
+operands_below_more k m True l h = refl
+operands_below_more k m (Not a) l h = lt-ltb a m (omega (arith, ltb-true a k h))
+operands_below_more k m (And a b) l h =
     let p = and_parts (ltb a k) (ltb b k) h in
     and_from (ltb a m) (ltb b m) (lt-ltb a m (omega (arith, ltb-true a k p.0))) (lt-ltb b m (omega (arith, ltb-true b k p.1)))
-operands_below-more k m (Or a b) l h =
+operands_below_more k m (Or a b) l h =
     let p = and_parts (ltb a k) (ltb b k) h in
     and_from (ltb a m) (ltb b m) (lt-ltb a m (omega (arith, ltb-true a k p.0))) (lt-ltb b m (omega (arith, ltb-true b k p.1)))
-operands_below-more k m (Previous a) l h = lt-ltb a m (omega (arith, ltb-true a k h))
-operands_below-more k m (Since a b) l h =
+operands_below_more k m (Previous a) l h = lt-ltb a m (omega (arith, ltb-true a k h))
+operands_below_more k m (Since a b) l h =
     let p = and_parts (ltb a k) (ltb b k) h in
     and_from (ltb a m) (ltb b m) (lt-ltb a m (omega (arith, ltb-true a k p.0))) (lt-ltb b m (omega (arith, ltb-true b k p.1)))
-operands_below-more k m (Always a) l h = lt-ltb a m (omega (arith, ltb-true a k h))
-operands_below-more k m (Once a) l h = lt-ltb a m (omega (arith, ltb-true a k h))
+operands_below_more k m (Always a) l h = lt-ltb a m (omega (arith, ltb-true a k h))
+operands_below_more k m (Once a) l h = lt-ltb a m (omega (arith, ltb-true a k h))
 
 pub earlier_from_at : (k : ℕ) (ns : List Node) (i : ℕ) → earlier_from k ns ≡ true → i < length ns → operands_below (k + i) (get_or ns i True) ≡ true
 earlier_from_at k [] i h l = absurd (omega arith)
@@ -105,11 +105,11 @@ formulas_from_at ts (n ∷ ns) zero h l =
     let p = and_parts (operands_below (length ts) n) (earlier_from (suc (length ts)) ns) h in
     let at : length ts ≡ length ts + 0 = omega arith in
     let first : get_or (formulas_from more ns) (length ts + 0) truth ≡ tree_of ts n =
-    formulas_from-front more ns (length ts + 0) truth (omega (arith, length_push ts (tree_of ts n)))
+    formulas_from_front more ns (length ts + 0) truth (omega (arith, length_push ts (tree_of ts n)))
     ∙ get_or_push ts (tree_of ts n) truth (length ts + 0) at in
     first
     ∙ sym (tree_of_same ts (formulas_from more ns) (length ts) n p.0
-    (λ j m. formulas_from-front more ns j truth (omega (arith, length_push ts (tree_of ts n))) ∙ get_or_append_left ts (tree_of ts n ∷ []) truth j m))
+    (λ j m. formulas_from_front more ns j truth (omega (arith, length_push ts (tree_of ts n))) ∙ get_or_append_left ts (tree_of ts n ∷ []) truth j m))
 formulas_from_at ts (n ∷ ns) (suc i) h l =
     let more = ts ++ (tree_of ts n ∷ []) in
     let p = and_parts (operands_below (length ts) n) (earlier_from (suc (length ts)) ns) h in

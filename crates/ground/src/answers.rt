@@ -1,7 +1,7 @@
 // Every answer is that of the book.
 ghost use Rattle.ground.specs.Grounds.{ground_model};
 ghost use Rattle.rulebook.specs.Contents as rule;
-ghost use Rattle.rulemodel.proofs.RuleLaws.{rule_lawful, rule-ground, rule-numbered};
+ghost use Rattle.rulemodel.proofs.RuleLaws.{rule_lawful, rule_ground, rule_numbered};
 ghost use Rattle.sitebook.specs.Contents as site;
 ghost use Rattle.sitebook.specs.Lawful.{site_lawful, site_ground, site_numbered};
 ghost use Rattle.ground.specs.declared.GroundBook.TheVariants.{Site, Rule};
@@ -77,14 +77,14 @@ impl SiteModel for GroundBook {
 impl GroundModel for GroundBook {
     ghost based = { elim [
       | Site b ↦ site_ground (site.contents b) b.sound
-      | Rule b ↦ rule-ground (rule.contents b) b.sound
+      | Rule b ↦ rule_ground (rule.contents b) b.sound
     ] };
 }
 
 impl Numbered for GroundBook {
     ghost numbered = { elim [
       | Site b ↦ site_numbered (site.contents b) b.sound
-      | Rule b ↦ rule-numbered (rule.contents b) b.sound
+      | Rule b ↦ rule_numbered (rule.contents b) b.sound
     ] };
 
     fn count(&self) -> usize {

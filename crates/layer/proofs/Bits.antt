@@ -47,20 +47,20 @@ said (Failed i) vs = not (get_or vs i false)
 zero_div : (k : ℕ) → 0 / 2 ^ k ≡ 0
 zero_div k = div-eq_of_lt (pow_pos k)
 
-memory-bit : (items : List Item) (vs : List Bool) (k : ℕ) → k < length items → labelled (memory_of items vs) k ≡ said (get_or items k (Held 0)) vs
-memory-bit [] vs k l = absurd (omega arith)
-memory-bit (Held i ∷ items) vs zero l = low (get_or vs i false) (memory_of items vs)
-memory-bit (Failed i ∷ items) vs zero l = low (not (get_or vs i false)) (memory_of items vs)
-memory-bit (Held i ∷ items) vs (suc k) l = higher (get_or vs i false) (memory_of items vs) k ∙ memory-bit items vs k (omega arith)
-memory-bit (Failed i ∷ items) vs (suc k) l = higher (not (get_or vs i false)) (memory_of items vs) k ∙ memory-bit items vs k (omega arith)
+memory_bit : (items : List Item) (vs : List Bool) (k : ℕ) → k < length items → labelled (memory_of items vs) k ≡ said (get_or items k (Held 0)) vs
+memory_bit [] vs k l = absurd (omega arith)
+memory_bit (Held i ∷ items) vs zero l = low (get_or vs i false) (memory_of items vs)
+memory_bit (Failed i ∷ items) vs zero l = low (not (get_or vs i false)) (memory_of items vs)
+memory_bit (Held i ∷ items) vs (suc k) l = higher (get_or vs i false) (memory_of items vs) k ∙ memory_bit items vs k (omega arith)
+memory_bit (Failed i ∷ items) vs (suc k) l = higher (not (get_or vs i false)) (memory_of items vs) k ∙ memory_bit items vs k (omega arith)
 
 empty_bit : (k : ℕ) → labelled 0 k ≡ false
 empty_bit k = ap (λ x. eqb (x % 2) 1) (zero_div k)
 
-pub memory-tells : MemoryTells
-memory-tells b ok τ zero k l = empty_bit k
-memory-tells b ok τ (suc n) k l =
-    memory-bit b.items (truths b.nodes τ n) k l
+pub memory_tells : MemoryTells
+memory_tells b ok τ zero k l = empty_bit k
+memory_tells b ok τ (suc n) k l =
+    memory_bit b.items (truths b.nodes τ n) k l
     ∙ item_said (get_or b.items k (Held 0)) (subst (λ is. Has is (get_or b.items k (Held 0))) ok.remembers (has_get_or b.items k (Held 0) l))
   where
     told : (i : ℕ) → i < length b.nodes → get_or (truths b.nodes τ n) i false ≡ holds (get_or (formulas b.nodes) i truth) τ n

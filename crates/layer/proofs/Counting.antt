@@ -10,23 +10,23 @@ use Rattle.layer.specs.Layering.{amounts}
 use Rattle.layer.specs.Tables.{item_held}
 use Rattle.layer.specs.Sizes.{memory_small, wish_bits_small, abs_add}
 
-memory-first : (item : Item) (items : List Item) (vs : List Bool) → memory_of (item ∷ items) vs ≡ bit (item_held item vs) + 2 * memory_of items vs
-memory-first (Held i) items vs = refl
-memory-first (Failed i) items vs = refl
+memory_first : (item : Item) (items : List Item) (vs : List Bool) → memory_of (item ∷ items) vs ≡ bit (item_held item vs) + 2 * memory_of items vs
+memory_first (Held i) items vs = refl
+memory_first (Failed i) items vs = refl
 
 -- the bit of the item before place i, below those from i on
-pub memory-more : (items : List Item) (vs : List Bool) (i : ℕ) (d : Item) → 0 < i → i ≤ length items → bit (item_held (get_or items (i - 1) d) vs) + 2 * memory_of (drop i items) vs ≡ memory_of (drop (i - 1) items) vs
-memory-more items vs i d some within =
+pub memory_more : (items : List Item) (vs : List Bool) (i : ℕ) (d : Item) → 0 < i → i ≤ length items → bit (item_held (get_or items (i - 1) d) vs) + 2 * memory_of (drop i items) vs ≡ memory_of (drop (i - 1) items) vs
+memory_more items vs i d some within =
     let back : i - 1 + 1 ≡ i = omega arith in
     ap (λ n. bit (item_held (get_or items (i - 1) d) vs) + 2 * memory_of (drop n items) vs) (sym back)
-    ∙ sym (memory-first (get_or items (i - 1) d) (drop (i - 1 + 1) items) vs)
+    ∙ sym (memory_first (get_or items (i - 1) d) (drop (i - 1 + 1) items) vs)
     ∙ sym (at_drop_more (λ l. memory_of l vs) items (i - 1) d (omega arith))
 
 pub memory_end : (items : List Item) (vs : List Bool) (i : ℕ) → length items ≤ i → 0 ≡ memory_of (drop i items) vs
 memory_end items vs i past = sym (at_drop_all (λ l. memory_of l vs) items i past)
 
-pub memory-room : (items : List Item) (vs : List Bool) (i : ℕ) → length items ≤ 16 → memory_of (drop i items) vs < 2 ^ 32
-memory-room items vs i few = omega (arith, memory_small (drop i items) vs (omega (arith, length-drop i items)))
+pub memory_room : (items : List Item) (vs : List Bool) (i : ℕ) → length items ≤ 16 → memory_of (drop i items) vs < 2 ^ 32
+memory_room items vs i few = omega (arith, memory_small (drop i items) vs (omega (arith, length-drop i items)))
 
 -- the bit of the wish before place i, below those from i on
 pub wish_bits_more : (ws : List Wish) (vs : List Bool) (i : ℕ) (d : Wish) → 0 < i → i ≤ length ws → bit (get_or vs (get_or ws (i - 1) d).node false) + 2 * bits_of_wishes (drop i ws) vs ≡ bits_of_wishes (drop (i - 1) ws) vs
@@ -42,17 +42,17 @@ pub wish_bits_room : (ws : List Wish) (vs : List Bool) (i : ℕ) → length ws �
 wish_bits_room ws vs i few = omega (arith, wish_bits_small (drop i ws) vs (omega (arith, length-drop i ws)))
 
 -- a sum of small numbers, in 32 bits
-pub small-fits : (z : ℤ) → nat_abs z < 2 ^ 31 → SFits w32 z
-small-fits (pos n) h = record { sfits = h }
-small-fits (negsuc n) h = record { sfits = omega arith }
+pub small_fits : (z : ℤ) → nat_abs z < 2 ^ 31 → SFits w32 z
+small_fits (pos n) h = record { sfits = h }
+small_fits (negsuc n) h = record { sfits = omega arith }
 
 sum_fits : (t a : ℤ) → nat_abs t ≤ 2 ^ 30 → nat_abs a < 65536 → SFits w32 (t +ℤ to_z w32 (of_z w32 a))
-sum_fits t a p q = subst (λ z. SFits w32 (t +ℤ z)) (sym (to_z-of_z w32 a (small-fits a (omega arith)))) (small-fits (t +ℤ a) (omega (arith, abs_add t a)))
+sum_fits t a p q = subst (λ z. SFits w32 (t +ℤ z)) (sym (to_z-of_z w32 a (small_fits a (omega arith)))) (small_fits (t +ℤ a) (omega (arith, abs_add t a)))
 
 sum_is : (t a : ℤ) → nat_abs t ≤ 2 ^ 30 → nat_abs a < 65536 → to_z w32 (of_z w32 (t +ℤ to_z w32 (of_z w32 a))) ≡ t +ℤ a
 sum_is t a p q =
-    ap (λ z. to_z w32 (of_z w32 (t +ℤ z))) (to_z-of_z w32 a (small-fits a (omega arith)))
-    ∙ to_z-of_z w32 (t +ℤ a) (small-fits (t +ℤ a) (omega (arith, abs_add t a)))
+    ap (λ z. to_z w32 (of_z w32 (t +ℤ z))) (to_z-of_z w32 a (small_fits a (omega arith)))
+    ∙ to_z-of_z w32 (t +ℤ a) (small_fits (t +ℤ a) (omega (arith, abs_add t a)))
 
 -- what is earned so far, with the wishes from place i on
 abbrev pub Earning : ℤ → ℤ → List Wish → List Bool → ℕ → Type 0
@@ -85,8 +85,8 @@ pub earned_end : (sum : ℤ) (ws : List Wish) (vs : List Bool) (i : ℕ) → len
 earned_end sum ws vs i past = sym (at_drop_all (λ l. earned sum l vs) ws i past)
 
 -- the next amount
-pub amounts-more : (ws : List Wish) (total i : ℕ) (d : Wish) → i < length ws → (total + nat_abs (amount (get_or ws i d))) + amounts (drop (i + 1) ws) ≡ total + amounts (drop i ws)
-amounts-more ws total i d here = let more : amounts (drop i ws) ≡ nat_abs (amount (get_or ws i d)) + amounts (drop (i + 1) ws) = at_drop_more amounts ws i d here in omega arith
+pub amounts_more : (ws : List Wish) (total i : ℕ) (d : Wish) → i < length ws → (total + nat_abs (amount (get_or ws i d))) + amounts (drop (i + 1) ws) ≡ total + amounts (drop i ws)
+amounts_more ws total i d here = let more : amounts (drop i ws) ≡ nat_abs (amount (get_or ws i d)) + amounts (drop (i + 1) ws) = at_drop_more amounts ws i d here in omega arith
 
 pub amounts_end : (ws : List Wish) (total i : ℕ) → length ws ≤ i → total ≡ total + amounts (drop i ws)
 amounts_end ws total i past = let none : amounts (drop i ws) ≡ 0 = at_drop_all amounts ws i past in omega arith

@@ -43,16 +43,16 @@ held_one : (item : Item) (rest : List Item) (left : ℕ) (table : List Bool) (i 
 held_one (Held k) rest left table i l = set_or (eqb (left % 2) 1) table k i (held_in rest (left / 2) i) l
 held_one (Failed k) rest left table i l = refl
 
-failed-one : (item : Item) (rest : List Item) (left : ℕ) (table : List Bool) (i : ℕ) → i < length table → (get_or (failed_with item (eqb (left % 2) 1) table) i false || failed_in rest (left / 2) i) ≡ (get_or table i false || failed_in (item ∷ rest) left i)
-failed-one (Held k) rest left table i l = refl
-failed-one (Failed k) rest left table i l = set_or (eqb (left % 2) 1) table k i (failed_in rest (left / 2) i) l
+failed_one : (item : Item) (rest : List Item) (left : ℕ) (table : List Bool) (i : ℕ) → i < length table → (get_or (failed_with item (eqb (left % 2) 1) table) i false || failed_in rest (left / 2) i) ≡ (get_or table i false || failed_in (item ∷ rest) left i)
+failed_one (Held k) rest left table i l = refl
+failed_one (Failed k) rest left table i l = set_or (eqb (left % 2) 1) table k i (failed_in rest (left / 2) i) l
 
 -- one item more
 pub held_more : (items : List Item) (n left : ℕ) (table : List Bool) (i : ℕ) (d : Item) → n < length items → i < length table → (get_or (held_with (get_or items n d) (eqb (left % 2) 1) table) i false || held_in (drop (n + 1) items) (left / 2) i) ≡ (get_or table i false || held_in (drop n items) left i)
 held_more items n left table i d h l = held_one (get_or items n d) (drop (n + 1) items) left table i l ∙ sym (ap (λ t. get_or table i false || t) (at_drop_more (λ xs. held_in xs left i) items n d h))
 
-pub failed-more : (items : List Item) (n left : ℕ) (table : List Bool) (i : ℕ) (d : Item) → n < length items → i < length table → (get_or (failed_with (get_or items n d) (eqb (left % 2) 1) table) i false || failed_in (drop (n + 1) items) (left / 2) i) ≡ (get_or table i false || failed_in (drop n items) left i)
-failed-more items n left table i d h l = failed-one (get_or items n d) (drop (n + 1) items) left table i l ∙ sym (ap (λ t. get_or table i false || t) (at_drop_more (λ xs. failed_in xs left i) items n d h))
+pub failed_more : (items : List Item) (n left : ℕ) (table : List Bool) (i : ℕ) (d : Item) → n < length items → i < length table → (get_or (failed_with (get_or items n d) (eqb (left % 2) 1) table) i false || failed_in (drop (n + 1) items) (left / 2) i) ≡ (get_or table i false || failed_in (drop n items) left i)
+failed_more items n left table i d h l = failed_one (get_or items n d) (drop (n + 1) items) left table i l ∙ sym (ap (λ t. get_or table i false || t) (at_drop_more (λ xs. failed_in xs left i) items n d h))
 
 or_none : (t : Bool) → (t || false) ≡ t
 or_none true = refl
@@ -66,8 +66,8 @@ pub failed_end : (items : List Item) (n left : ℕ) (table : List Bool) (i : ℕ
 failed_end items n left table i h = sym (ap (λ t. get_or table i false || t) (at_drop_all (λ xs. failed_in xs left i) items n h) ∙ or_none (get_or table i false))
 
 -- one node more, after those before it
-pub verdicts-more : (mask : ℕ) (r : Remembered) (nodes : List Node) (known before : List Bool) (i : ℕ) (d : Node) (v : Bool) → i < length nodes → i < length known → before ≡ take i known → v ≡ verdict mask r (length before) before (get_or nodes i d) → verdicts_from mask r (take (i + 1) (set known i v)) (drop (i + 1) nodes) ≡ verdicts_from mask r (take i known) (drop i nodes)
-verdicts-more mask r nodes known before i d v here room same is =
+pub verdicts_more : (mask : ℕ) (r : Remembered) (nodes : List Node) (known before : List Bool) (i : ℕ) (d : Node) (v : Bool) → i < length nodes → i < length known → before ≡ take i known → v ≡ verdict mask r (length before) before (get_or nodes i d) → verdicts_from mask r (take (i + 1) (set known i v)) (drop (i + 1) nodes) ≡ verdicts_from mask r (take i known) (drop i nodes)
+verdicts_more mask r nodes known before i d v here room same is =
     let more : take (i + 1) (set known i v) ≡ take i known ++ (verdict mask r (length (take i known)) (take i known) (get_or nodes i d) ∷ [])
     = take_more_set known i v room ∙ ap (λ t. take i known ++ (t ∷ [])) (is ∙ ap (λ l. verdict mask r (length l) l (get_or nodes i d)) same) in
     ap (λ l. verdicts_from mask r l (drop (i + 1) nodes)) more
@@ -80,23 +80,23 @@ verdicts_end mask r nodes known i past = sym (at_drop_all (λ l. verdicts_from m
 later : (x : Item) (xs : List Item) (y : Item) → Has xs y → Has (x ∷ xs) y
 later x xs y (k, l, at) = (suc k, omega arith, at)
 
-held-has : (items : List Item) (m i : ℕ) → held_in items m i ≡ true → Has items (Held i)
-held-has [] m i e = absurd (both_ways false refl e)
-held-has (Held k ∷ items) m i e =
+held_has : (items : List Item) (m i : ℕ) → held_in items m i ≡ true → Has items (Held i)
+held_has [] m i e = absurd (both_ways false refl e)
+held_has (Held k ∷ items) m i e =
     elim (or_cases (eqb i k && eqb (m % 2) 1) (held_in items (m / 2) i) e) [
       | inl here ↦ (0, omega arith, λ d. ap Held (sym (eqb-true i k (and_parts (eqb i k) (eqb (m % 2) 1) here).0)))
-      | inr past ↦ later (Held k) items (Held i) (held-has items (m / 2) i past)
+      | inr past ↦ later (Held k) items (Held i) (held_has items (m / 2) i past)
     ]
-held-has (Failed k ∷ items) m i e = later (Failed k) items (Held i) (held-has items (m / 2) i e)
+held_has (Failed k ∷ items) m i e = later (Failed k) items (Held i) (held_has items (m / 2) i e)
 
-failed-has : (items : List Item) (m i : ℕ) → failed_in items m i ≡ true → Has items (Failed i)
-failed-has [] m i e = absurd (both_ways false refl e)
-failed-has (Failed k ∷ items) m i e =
+failed_has : (items : List Item) (m i : ℕ) → failed_in items m i ≡ true → Has items (Failed i)
+failed_has [] m i e = absurd (both_ways false refl e)
+failed_has (Failed k ∷ items) m i e =
     elim (or_cases (eqb i k && eqb (m % 2) 1) (failed_in items (m / 2) i) e) [
       | inl here ↦ (0, omega arith, λ d. ap Failed (sym (eqb-true i k (and_parts (eqb i k) (eqb (m % 2) 1) here).0)))
-      | inr past ↦ later (Failed k) items (Failed i) (failed-has items (m / 2) i past)
+      | inr past ↦ later (Failed k) items (Failed i) (failed_has items (m / 2) i past)
     ]
-failed-has (Held k ∷ items) m i e = later (Held k) items (Failed i) (failed-has items (m / 2) i e)
+failed_has (Held k ∷ items) m i e = later (Held k) items (Failed i) (failed_has items (m / 2) i e)
 
 module _ (nodes : List Node) (used : List Bool) (m : ℕ) (few : length nodes ≤ 128) where
   abbrev items : List Item
@@ -105,14 +105,14 @@ module _ (nodes : List Node) (used : List Bool) (m : ℕ) (few : length nodes �
   held_past : (i : ℕ) → 128 ≤ i → held_in items m i ≡ false
   held_past i past =
       elim (cases_Bool (held_in items m i)) [
-        | inl t ↦ absurd (omega (arith, ((selected nodes used).held_only i (held-has items m i t)).0))
+        | inl t ↦ absurd (omega (arith, ((selected nodes used).held_only i (held_has items m i t)).0))
         | inr f ↦ f
       ]
 
   failed_past : (i : ℕ) → 128 ≤ i → failed_in items m i ≡ false
   failed_past i past =
       elim (cases_Bool (failed_in items m i)) [
-        | inl t ↦ absurd (omega (arith, ((selected nodes used).failed_only i (failed-has items m i t)).0))
+        | inl t ↦ absurd (omega (arith, ((selected nodes used).failed_only i (failed_has items m i t)).0))
         | inr f ↦ f
       ]
 

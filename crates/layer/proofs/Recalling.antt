@@ -25,35 +25,35 @@ held_is i j e = cc
 failed_is : (i j : ℕ) → Failed i ≡ Failed j → i ≡ j
 failed_is i j e = cc
 
-apart-items : (i j : ℕ) → Held i ≡ Failed j → ⊥
-apart-items i j e = let z : ◌≡◌ {A = ℕ} 0 1 = cc in omega arith
+apart_items : (i j : ℕ) → Held i ≡ Failed j → ⊥
+apart_items i j e = let z : ◌≡◌ {A = ℕ} 0 1 = cc in omega arith
 
 -- the step of both bits
-held-step : (j : ℕ) (items : List Item) (vs : List Bool) (i : ℕ) → held_in (Held j ∷ items) (memory_of (Held j ∷ items) vs) i ≡ ((eqb i j && get_or vs j false) || held_in items (memory_of items vs) i)
-held-step j items vs i = λ k. (eqb i j && low_bit (get_or vs j false) (memory_of items vs) k) || held_in items (high_bits (get_or vs j false) (memory_of items vs) k) i
+held_step : (j : ℕ) (items : List Item) (vs : List Bool) (i : ℕ) → held_in (Held j ∷ items) (memory_of (Held j ∷ items) vs) i ≡ ((eqb i j && get_or vs j false) || held_in items (memory_of items vs) i)
+held_step j items vs i = λ k. (eqb i j && low_bit (get_or vs j false) (memory_of items vs) k) || held_in items (high_bits (get_or vs j false) (memory_of items vs) k) i
 
 held_pass : (j : ℕ) (items : List Item) (vs : List Bool) (i : ℕ) → held_in (Failed j ∷ items) (memory_of (Failed j ∷ items) vs) i ≡ held_in items (memory_of items vs) i
 held_pass j items vs i = ap (λ m. held_in items m i) (high_bits (not (get_or vs j false)) (memory_of items vs))
 
-failed-step : (j : ℕ) (items : List Item) (vs : List Bool) (i : ℕ) → failed_in (Failed j ∷ items) (memory_of (Failed j ∷ items) vs) i ≡ ((eqb i j && not (get_or vs j false)) || failed_in items (memory_of items vs) i)
-failed-step j items vs i = λ k. (eqb i j && low_bit (not (get_or vs j false)) (memory_of items vs) k) || failed_in items (high_bits (not (get_or vs j false)) (memory_of items vs) k) i
+failed_step : (j : ℕ) (items : List Item) (vs : List Bool) (i : ℕ) → failed_in (Failed j ∷ items) (memory_of (Failed j ∷ items) vs) i ≡ ((eqb i j && not (get_or vs j false)) || failed_in items (memory_of items vs) i)
+failed_step j items vs i = λ k. (eqb i j && low_bit (not (get_or vs j false)) (memory_of items vs) k) || failed_in items (high_bits (not (get_or vs j false)) (memory_of items vs) k) i
 
 failed_pass : (j : ℕ) (items : List Item) (vs : List Bool) (i : ℕ) → failed_in (Held j ∷ items) (memory_of (Held j ∷ items) vs) i ≡ failed_in items (memory_of items vs) i
 failed_pass j items vs i = ap (λ m. failed_in items m i) (high_bits (get_or vs j false) (memory_of items vs))
 
-held-only : (items : List Item) (vs : List Bool) (i : ℕ) → held_in items (memory_of items vs) i ≡ true → get_or vs i false ≡ true
-held-only [] vs i h = absurd (both_ways false refl h)
-held-only (Held j ∷ items) vs i h =
-    elim (or_cases (eqb i j && get_or vs j false) (held_in items (memory_of items vs) i) (sym (held-step j items vs i) ∙ h)) [
+held_only_there : (items : List Item) (vs : List Bool) (i : ℕ) → held_in items (memory_of items vs) i ≡ true → get_or vs i false ≡ true
+held_only_there [] vs i h = absurd (both_ways false refl h)
+held_only_there (Held j ∷ items) vs i h =
+    elim (or_cases (eqb i j && get_or vs j false) (held_in items (memory_of items vs) i) (sym (held_step j items vs i) ∙ h)) [
       | inl e ↦ let parts = and_parts (eqb i j) (get_or vs j false) e in ap (λ k. get_or vs k false) (eqb-true i j parts.0) ∙ parts.1
-      | inr e ↦ held-only items vs i e
+      | inr e ↦ held_only_there items vs i e
     ]
-held-only (Failed j ∷ items) vs i h = held-only items vs i (sym (held_pass j items vs i) ∙ h)
+held_only_there (Failed j ∷ items) vs i h = held_only_there items vs i (sym (held_pass j items vs i) ∙ h)
 
 held_there : (items : List Item) (vs : List Bool) (i : ℕ) → Has items (Held i) → get_or vs i false ≡ true → held_in items (memory_of items vs) i ≡ true
 held_there [] vs i (k, l, at) e = absurd (omega arith)
 held_there (Held j ∷ items) vs i has e =
-    held-step j items vs i ∙
+    held_step j items vs i ∙
     elim (first_or_later (Held j) items (Held i) has) [
       | inl same ↦
           let is = held_is j i same in
@@ -62,23 +62,23 @@ held_there (Held j ∷ items) vs i has e =
     ]
 held_there (Failed j ∷ items) vs i has e =
     elim (first_or_later (Failed j) items (Held i) has) [
-      | inl same ↦ absurd (apart-items i j (sym same))
+      | inl same ↦ absurd (apart_items i j (sym same))
       | inr later ↦ held_pass j items vs i ∙ held_there items vs i later e
     ]
 
-failed-only : (items : List Item) (vs : List Bool) (i : ℕ) → failed_in items (memory_of items vs) i ≡ true → get_or vs i false ≡ false
-failed-only [] vs i h = absurd (both_ways false refl h)
-failed-only (Failed j ∷ items) vs i h =
-    elim (or_cases (eqb i j && not (get_or vs j false)) (failed_in items (memory_of items vs) i) (sym (failed-step j items vs i) ∙ h)) [
+failed_only_there : (items : List Item) (vs : List Bool) (i : ℕ) → failed_in items (memory_of items vs) i ≡ true → get_or vs i false ≡ false
+failed_only_there [] vs i h = absurd (both_ways false refl h)
+failed_only_there (Failed j ∷ items) vs i h =
+    elim (or_cases (eqb i j && not (get_or vs j false)) (failed_in items (memory_of items vs) i) (sym (failed_step j items vs i) ∙ h)) [
       | inl e ↦ let parts = and_parts (eqb i j) (not (get_or vs j false)) e in ap (λ k. get_or vs k false) (eqb-true i j parts.0) ∙ not-true (get_or vs j false) parts.1
-      | inr e ↦ failed-only items vs i e
+      | inr e ↦ failed_only_there items vs i e
     ]
-failed-only (Held j ∷ items) vs i h = failed-only items vs i (sym (failed_pass j items vs i) ∙ h)
+failed_only_there (Held j ∷ items) vs i h = failed_only_there items vs i (sym (failed_pass j items vs i) ∙ h)
 
 failed_there : (items : List Item) (vs : List Bool) (i : ℕ) → Has items (Failed i) → get_or vs i false ≡ false → failed_in items (memory_of items vs) i ≡ true
 failed_there [] vs i (k, l, at) e = absurd (omega arith)
 failed_there (Failed j ∷ items) vs i has e =
-    failed-step j items vs i ∙
+    failed_step j items vs i ∙
     elim (first_or_later (Failed j) items (Failed i) has) [
       | inl same ↦
           let is = failed_is j i same in
@@ -87,7 +87,7 @@ failed_there (Failed j ∷ items) vs i has e =
     ]
 failed_there (Held j ∷ items) vs i has e =
     elim (first_or_later (Held j) items (Failed i) has) [
-      | inl same ↦ absurd (apart-items j i same)
+      | inl same ↦ absurd (apart_items j i same)
       | inr later ↦ failed_pass j items vs i ∙ failed_there items vs i later e
     ]
 
@@ -97,7 +97,7 @@ held_recalls items vs i has =
     elim (cases_Bool (get_or vs i false)) [
       | inl e ↦ held_there items vs i has e ∙ sym e
       | inr e ↦ elim (cases_Bool (held_in items (memory_of items vs) i)) [
-        | inl t ↦ absurd (both_ways (get_or vs i false) e (held-only items vs i t))
+        | inl t ↦ absurd (both_ways (get_or vs i false) e (held_only_there items vs i t))
         | inr t ↦ t ∙ sym e
       ]
     ]
@@ -107,7 +107,7 @@ pub failed_recalls : (items : List Item) (vs : List Bool) (i : ℕ) → Has item
 failed_recalls items vs i has =
     elim (cases_Bool (get_or vs i false)) [
       | inl e ↦ elim (cases_Bool (failed_in items (memory_of items vs) i)) [
-        | inl t ↦ absurd (both_ways (get_or vs i false) (failed-only items vs i t) e)
+        | inl t ↦ absurd (both_ways (get_or vs i false) (failed_only_there items vs i t) e)
         | inr t ↦ t ∙ ap not (sym e)
       ]
       | inr e ↦ failed_there items vs i has e ∙ ap not (sym e)

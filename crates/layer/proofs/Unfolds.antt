@@ -26,11 +26,11 @@ use Rattle.layer.specs.Judging.{Remembered, recalled, verdict, verdicts_from, ve
 use Rattle.layer.specs.Layering.{under, memory, is_layer_state, judged, lifted, layered}
 use Rattle.layer.specs.Records.{trace_of, end_of, truths, memory_at, code_over, mask_over, reward_over, SoundBook}
 use Rattle.layer.specs.Sizes.{memory_below}
-use Rattle.layer.proofs.Verdicts.{Right, verdicts-right, memory_at_state, recalls_at, memory-next, told_at}
+use Rattle.layer.proofs.Verdicts.{Right, verdicts_right, memory_at_state, recalls_at, memory_next, told_at}
 
-some-history : (g : Model) (h : List ℕ) → History g h → 1 ≤ length h
-some-history g h begun = omega arith
-some-history g h (onward {h = before} a t hist off has) = omega (arith, length_push before t)
+some_history : (g : Model) (h : List ℕ) → History g h → 1 ≤ length h
+some_history g h begun = omega arith
+some_history g h (onward {h = before} a t hist off has) = omega (arith, length_push before t)
 
 trace_end : (mask : List ℕ → ℕ) (h : List ℕ) → 1 ≤ length h → trace_of mask h (end_of h) ≡ mask h
 trace_end mask h some = ap mask (take_all (length h - 1 + 1) h (omega arith))
@@ -47,8 +47,8 @@ map-map : {X Y Z : Type 0} (f : Y → Z) (k : X → Y) (xs : List X) → map f (
 map-map f k [] = refl
 map-map f k (x ∷ xs) = ap (λ l. f (k x) ∷ l) (map-map f k xs)
 
-truths-before : (ns : List Node) (mask : List ℕ → ℕ) (h : List ℕ) (t : ℕ) → 1 ≤ length h → truths ns (trace_of mask (h ++ (t ∷ []))) (end_of h) ≡ truths ns (trace_of mask h) (end_of h)
-truths-before ns mask h t some = map_same (λ f. holds f (trace_of mask (h ++ (t ∷ []))) (end_of h)) (λ f. holds f (trace_of mask h) (end_of h)) (formulas ns) (λ f. holds_local f (trace_of mask (h ++ (t ∷ []))) (trace_of mask h) (end_of h) (λ j le. trace_before mask h t j (omega arith)))
+truths_before : (ns : List Node) (mask : List ℕ → ℕ) (h : List ℕ) (t : ℕ) → 1 ≤ length h → truths ns (trace_of mask (h ++ (t ∷ []))) (end_of h) ≡ truths ns (trace_of mask h) (end_of h)
+truths_before ns mask h t some = map_same (λ f. holds f (trace_of mask (h ++ (t ∷ []))) (end_of h)) (λ f. holds f (trace_of mask h) (end_of h)) (formulas ns) (λ f. holds_local f (trace_of mask (h ++ (t ∷ []))) (trace_of mask h) (end_of h) (λ j le. trace_before mask h t j (omega arith)))
 
 verdicts-length : (mask : ℕ) (r : Remembered) (known : List Bool) (ns : List Node) → length (verdicts_from mask r known ns) ≡ length known + length ns
 verdicts-length mask r known [] = omega arith
@@ -58,11 +58,11 @@ wish_bits_same : (ws : List Wish) (vs us : List Bool) → ((k : ℕ) → Has (ma
 wish_bits_same [] vs us h = refl
 wish_bits_same (w ∷ ws) vs us h = λ i. bit (h w.node (0, omega arith, λ d. refl) i) + 2 * wish_bits_same ws vs us (λ k has. h k (suc has.0, omega (arith, has.1), has.2)) i
 
-earned-same : (sum : ℤ) (ws : List Wish) (vs us : List Bool) → ((k : ℕ) → Has (map (λ w. w.node) ws) k → get_or vs k false ≡ get_or us k false) → earned sum ws vs ≡ earned sum ws us
-earned-same sum [] vs us h = refl
-earned-same sum (w ∷ ws) vs us h =
+earned_same : (sum : ℤ) (ws : List Wish) (vs us : List Bool) → ((k : ℕ) → Has (map (λ w. w.node) ws) k → get_or vs k false ≡ get_or us k false) → earned sum ws vs ≡ earned sum ws us
+earned_same sum [] vs us h = refl
+earned_same sum (w ∷ ws) vs us h =
     ap (λ b. earned (cond b (sum +ℤ amount w) sum) ws vs) (h w.node (0, omega arith, λ d. refl))
-    ∙ earned-same (cond (get_or us w.node false) (sum +ℤ amount w) sum) ws vs us (λ k has. h k (suc has.0, omega (arith, has.1), has.2))
+    ∙ earned_same (cond (get_or us w.node false) (sum +ℤ amount w) sum) ws vs us (λ k has. h k (suc has.0, omega (arith, has.1), has.2))
 
 root_below : (n : ℕ) (ws : List Wish) (k : ℕ) → all (good_wish n) ws ≡ true → Has (map (λ w. w.node) ws) k → k < n
 root_below n [] k each (p, l, at) = absurd (omega arith)
@@ -84,7 +84,7 @@ module _ (g m : Model) (code mask : List ℕ → ℕ) (reward : List ℕ → ℤ
     n = end_of h
 
     some : 1 ≤ length h
-    some = some-history g h hist
+    some = some_history g h hist
 
     abbrev mem : ℕ
     mem = memory_at book τ n
@@ -93,24 +93,24 @@ module _ (g m : Model) (code mask : List ℕ → ℕ) (reward : List ℕ → ℤ
     mem_is zero = refl
     mem_is (suc k) = refl
 
-    mem-items : (k : ℕ) → memory_at book τ k < 2 ^ length (items_over ns ws)
-    mem-items zero = pow_pos (length (items_over ns ws))
-    mem-items (suc k) = memory_below (items_over ns ws) (truths ns τ k)
+    mem_items : (k : ℕ) → memory_at book τ k < 2 ^ length (items_over ns ws)
+    mem_items zero = pow_pos (length (items_over ns ws))
+    mem_items (suc k) = memory_below (items_over ns ws) (truths ns τ k)
 
-    mem-low : mem < 65536
-    mem-low = let top : 2 ^ length (items_over ns ws) ≤ 2 ^ 16 = pow_mono few in omega (arith, mem-items n, top)
+    mem_low : mem < 65536
+    mem_low = let top : 2 ^ length (items_over ns ws) ≤ 2 ^ 16 = pow_mono few in omega (arith, mem_items n, top)
 
     abbrev s : ℕ
     s = code_over code mask book h
 
     under_is : under s ≡ code h
-    under_is = div-mul-add (code h) 65536 mem mem-low
+    under_is = div-mul-add (code h) 65536 mem mem_low
 
     memory_is : memory s ≡ mem
-    memory_is = mod-mul-add (code h) 65536 mem mem-low
+    memory_is = mod-mul-add (code h) 65536 mem mem_low
 
     state_is : is_layer_state m book s ≡ true
-    state_is = and_from (m.state (under s)) (ltb (memory s) (2 ^ length (items_over ns ws))) (ap m.state under_is ∙ u.states h hist) (ap (λ k. ltb k (2 ^ length (items_over ns ws))) memory_is ∙ lt-ltb mem (2 ^ length (items_over ns ws)) (mem-items n))
+    state_is = and_from (m.state (under s)) (ltb (memory s) (2 ^ length (items_over ns ws))) (ap m.state under_is ∙ u.states h hist) (ap (λ k. ltb k (2 ^ length (items_over ns ws))) memory_is ∙ lt-ltb mem (2 ^ length (items_over ns ws)) (mem_items n))
 
     judged_is : judged m book s ≡ verdicts (τ n) (recalled (items_over ns ws) (memory_at_state ns roots ok τ n)) ns
     judged_is =
@@ -118,40 +118,40 @@ module _ (g m : Model) (code mask : List ℕ → ℕ) (reward : List ℕ → ℤ
         ∙ ap (λ k. verdicts k (recalled (items_over ns ws) (memory_at_state ns roots ok τ n)) ns) (u.masks h hist ∙ sym (trace_end mask h some))
 
     right : Right ns roots ok τ n (judged m book s)
-    right = subst (Right ns roots ok τ n) (sym judged_is) (verdicts-right ns roots ok τ n (recalled (items_over ns ws) (memory_at_state ns roots ok τ n)) (recalls_at ns roots ok τ n))
+    right = subst (Right ns roots ok τ n) (sym judged_is) (verdicts_right ns roots ok τ n (recalled (items_over ns ws) (memory_at_state ns roots ok τ n)) (recalls_at ns roots ok τ n))
 
     judged-length : length (judged m book s) ≡ length ns
     judged-length = verdicts-length (m.mask (under s)) (recalled (items_over ns ws) (memory s)) [] ns ∙ omega arith
 
     -- the verdicts on the wishes are what the truth lines say
-    wishes-right : (k : ℕ) → Has roots k → get_or (judged m book s) k false ≡ get_or (truths ns τ n) k false
-    wishes-right k has =
+    wishes_right : (k : ℕ) → Has roots k → get_or (judged m book s) k false ≡ get_or (truths ns τ n) k false
+    wishes_right k has =
         let low = root_below (length ns) ws k each has in
         right k (omega (arith, judged-length)) ((exact ns roots ok).every k low (root has)) ∙ sym (told_at ns roots ok τ n k low)
 
-    next-memory : (t : ℕ) → memory_of (items_over ns ws) (judged m book s) ≡ memory_at book (trace_of mask (h ++ (t ∷ []))) (end_of (h ++ (t ∷ [])))
-    next-memory t =
+    next_memory : (t : ℕ) → memory_of (items_over ns ws) (judged m book s) ≡ memory_at book (trace_of mask (h ++ (t ∷ []))) (end_of (h ++ (t ∷ [])))
+    next_memory t =
         let end : end_of (h ++ (t ∷ [])) ≡ suc n = omega (arith, length_push h t, some) in
-        memory-next ns roots ok τ n (judged m book s) judged-length right
-        ∙ ap (memory_of (items_over ns ws)) (sym (truths-before ns mask h t some))
+        memory_next ns roots ok τ n (judged m book s) judged-length right
+        ∙ ap (memory_of (items_over ns ws)) (sym (truths_before ns mask h t some))
         ∙ ap (memory_at book (trace_of mask (h ++ (t ∷ [])))) (sym end)
 
     lifted_is : (o : Outcome) → lifted m book s (along code h o) ≡ along (code_over code mask book) h o
-    lifted_is o = λ i. record { target = code (h ++ (o.target ∷ [])) * 65536 + next-memory o.target i; weight = o.weight }
+    lifted_is o = λ i. record { target = code (h ++ (o.target ∷ [])) * 65536 + next_memory o.target i; weight = o.weight }
 
   -- the layer unfolds the ground model too
   pub layer_unfolds : Unfolds g (layered m book) (code_over code mask book) (mask_over m.labels mask book) (reward_over mask reward book)
   layer_unfolds = record {
     first = let start = u.first in omega (arith, start);
     states = λ h hist. state_is h hist;
-    sites = λ h hist. ap (λ b. cond b (m.ground (under (s h hist))) 0) (state_is h hist) ∙ ap m.ground (under_is h hist) ∙ u.sites h hist;
+    sites = λ h hist. ap (λ b. cond b (m.site (under (s h hist))) 0) (state_is h hist) ∙ ap m.site (under_is h hist) ∙ u.sites h hist;
     masks = λ h hist.
         ap (λ b. cond b (m.mask (under (s h hist)) + 2 ^ m.labels * bits_of_wishes ws (judged m book (s h hist))) 0) (state_is h hist)
-        ∙ (λ i. (ap m.mask (under_is h hist) ∙ u.masks h hist) i + 2 ^ m.labels * wish_bits_same ws (judged m book (s h hist)) (truths ns (trace_of mask h) (end_of h)) (wishes-right h hist) i);
+        ∙ (λ i. (ap m.mask (under_is h hist) ∙ u.masks h hist) i + 2 ^ m.labels * wish_bits_same ws (judged m book (s h hist)) (truths ns (trace_of mask h) (end_of h)) (wishes_right h hist) i);
     rewards = λ h hist.
         ap (λ b. cond b (earned (m.reward (under (s h hist))) ws (judged m book (s h hist))) (pos 0)) (state_is h hist)
         ∙ ap (λ r. earned r ws (judged m book (s h hist))) (ap m.reward (under_is h hist) ∙ u.rewards h hist)
-        ∙ earned-same (reward h) ws (judged m book (s h hist)) (truths ns (trace_of mask h) (end_of h)) (wishes-right h hist);
+        ∙ earned_same (reward h) ws (judged m book (s h hist)) (truths ns (trace_of mask h) (end_of h)) (wishes_right h hist);
     offers = λ h hist a. ap (λ b. b && m.offered (under (s h hist)) a) (state_is h hist) ∙ ap (λ k. m.offered k a) (under_is h hist) ∙ u.offers h hist a;
     moves = λ h hist a.
         ap (λ b. cond b (map (lifted m book (s h hist)) (m.outcomes (under (s h hist)) a)) []) (state_is h hist)

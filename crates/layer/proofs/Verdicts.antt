@@ -15,20 +15,20 @@ use Rattle.formula.proofs.Chosen.{selected}
 use Rattle.formula.proofs.Marks.{exact}
 use Rattle.formula.proofs.Trees.{earlier_at, formulas_at, length-formulas}
 use Rattle.truth.specs.Truth.{Trace, before, holds}
-use Rattle.truth.proofs.Unfolding.{since-first, since-next, always-first, always-next, sometime-first, sometime-next}
+use Rattle.truth.proofs.Unfolding.{since_first, since_next, always_first, always_next, sometime_first, sometime_next}
 use Rattle.layer.specs.Judging.{Remembered, recalled, bit, verdict, verdicts_from, verdicts, memory_of}
 use Rattle.layer.proofs.Recalling.{held_recalls, failed_recalls, held_empty, failed_empty}
 
 later : (x : Item) (xs : List Item) (y : Item) → Has xs y → Has (x ∷ xs) y
 later x xs y (k, l, at) = (suc k, omega arith, at)
 
-memory-same : (xs : List Item) (vs us : List Bool) → ((i : ℕ) → Has xs (Held i) → get_or vs i false ≡ get_or us i false) → ((i : ℕ) → Has xs (Failed i) → get_or vs i false ≡ get_or us i false) → memory_of xs vs ≡ memory_of xs us
-memory-same [] vs us h f = refl
-memory-same (Held i ∷ xs) vs us h f =
-    let rest = memory-same xs vs us (λ j has. h j (later (Held i) xs (Held j) has)) (λ j has. f j (later (Held i) xs (Failed j) has)) in
+memory_same : (xs : List Item) (vs us : List Bool) → ((i : ℕ) → Has xs (Held i) → get_or vs i false ≡ get_or us i false) → ((i : ℕ) → Has xs (Failed i) → get_or vs i false ≡ get_or us i false) → memory_of xs vs ≡ memory_of xs us
+memory_same [] vs us h f = refl
+memory_same (Held i ∷ xs) vs us h f =
+    let rest = memory_same xs vs us (λ j has. h j (later (Held i) xs (Held j) has)) (λ j has. f j (later (Held i) xs (Failed j) has)) in
     λ k. bit (h i (0, omega arith, λ d. refl) k) + 2 * rest k
-memory-same (Failed i ∷ xs) vs us h f =
-    let rest = memory-same xs vs us (λ j has. h j (later (Failed i) xs (Held j) has)) (λ j has. f j (later (Failed i) xs (Failed j) has)) in
+memory_same (Failed i ∷ xs) vs us h f =
+    let rest = memory_same xs vs us (λ j has. h j (later (Failed i) xs (Held j) has)) (λ j has. f j (later (Failed i) xs (Failed j) has)) in
     λ k. bit (not (f i (0, omega arith, λ d. refl) k)) + 2 * rest k
 
 before_same : (n : ℕ) (P Q : ℕ → Bool) → ((j : ℕ) → P j ≡ Q j) → before n P ≡ before n Q
@@ -69,25 +69,25 @@ module _ (ns : List Node) (roots : List ℕ) (ok : earlier ns ≡ true) (τ : Tr
   only_operand : (a : ℕ) → Has (a ∷ []) a
   only_operand a = (0, omega arith, λ d. refl)
 
-  since-holds : (n : ℕ) (a b : Formula) (held x y : Bool) → held ≡ before n (λ j. holds (since a b) τ j) → x ≡ holds a τ n → y ≡ holds b τ n → ((x && held) || y) ≡ holds (since a b) τ n
-  since-holds zero a b held x y h ex ey = (λ k. (x && h k) || y) ∙ ap (λ t. t || y) (none_and x) ∙ ey ∙ sym (since-first a b τ)
+  since_holds : (n : ℕ) (a b : Formula) (held x y : Bool) → held ≡ before n (λ j. holds (since a b) τ j) → x ≡ holds a τ n → y ≡ holds b τ n → ((x && held) || y) ≡ holds (since a b) τ n
+  since_holds zero a b held x y h ex ey = (λ k. (x && h k) || y) ∙ ap (λ t. t || y) (none_and x) ∙ ey ∙ sym (since_first a b τ)
     where
       none_and : (t : Bool) → (t && false) ≡ false
       none_and true = refl
       none_and false = refl
-  since-holds (suc n) a b held x y h ex ey = (λ k. (ex k && h k) || ey k) ∙ sym (since-next a b τ n)
+  since_holds (suc n) a b held x y h ex ey = (λ k. (ex k && h k) || ey k) ∙ sym (since_next a b τ n)
 
-  always-holds : (n : ℕ) (a : Formula) (failed x : Bool) → failed ≡ before n (λ j. not (holds (always a) τ j)) → x ≡ holds a τ n → (not failed && x) ≡ holds (always a) τ n
-  always-holds zero a failed x h ex = (λ k. not (h k) && ex k) ∙ sym (always-first a τ)
-  always-holds (suc n) a failed x h ex = (λ k. not (h k) && ex k) ∙ ap (λ t. t && holds a τ (suc n)) (not_not (holds (always a) τ n)) ∙ sym (always-next a τ n)
+  always_holds : (n : ℕ) (a : Formula) (failed x : Bool) → failed ≡ before n (λ j. not (holds (always a) τ j)) → x ≡ holds a τ n → (not failed && x) ≡ holds (always a) τ n
+  always_holds zero a failed x h ex = (λ k. not (h k) && ex k) ∙ sym (always_first a τ)
+  always_holds (suc n) a failed x h ex = (λ k. not (h k) && ex k) ∙ ap (λ t. t && holds a τ (suc n)) (not_not (holds (always a) τ n)) ∙ sym (always_next a τ n)
     where
       not_not : (t : Bool) → not (not t) ≡ t
       not_not true = refl
       not_not false = refl
 
-  sometime-holds : (n : ℕ) (a : Formula) (held x : Bool) → held ≡ before n (λ j. holds (sometime a) τ j) → x ≡ holds a τ n → (held || x) ≡ holds (sometime a) τ n
-  sometime-holds zero a held x h ex = (λ k. h k || ex k) ∙ sym (sometime-first a τ)
-  sometime-holds (suc n) a held x h ex = (λ k. h k || ex k) ∙ sym (sometime-next a τ n)
+  sometime_holds : (n : ℕ) (a : Formula) (held x : Bool) → held ≡ before n (λ j. holds (sometime a) τ j) → x ≡ holds a τ n → (held || x) ≡ holds (sometime a) τ n
+  sometime_holds zero a held x h ex = (λ k. h k || ex k) ∙ sym (sometime_first a τ)
+  sometime_holds (suc n) a held x h ex = (λ k. h k || ex k) ∙ sym (sometime_next a τ n)
 
   module _ (n : ℕ) (r : Remembered) (recalls : Recalls n r) (known : List Bool) (right : Right n known) where
     -- the verdict on the next node, by its kind
@@ -97,51 +97,51 @@ module _ (ns : List Node) (roots : List ℕ) (ok : earlier ns ≡ true) (τ : Tr
     known_at : (a : ℕ) → here < length ns → a < here → Used here → Has (operands (get_or ns here True)) a → get_or known a false ≡ true_at n a
     known_at a l less u has = right a less (operand_used here a l less u has)
 
-    verdict-kind : (node : Node) → get_or ns here True ≡ node → here < length ns → Used here → operands_below here node ≡ true → verdict (τ n) r here known node ≡ holds (tree_of (formulas ns) node) τ n
+    verdict_kind : (node : Node) → get_or ns here True ≡ node → here < length ns → Used here → operands_below here node ≡ true → verdict (τ n) r here known node ≡ holds (tree_of (formulas ns) node) τ n
     unfolding holds
-    verdict-kind (Label p) is l u o = refl
-    verdict-kind True is l u o = refl
-    verdict-kind (Not a) is l u o = ap not (known_at a l (ltb-true a here o) u (subst (λ m. Has (operands m) a) (sym is) (only_operand a)))
-    verdict-kind (And a b) is l u o =
+    verdict_kind (Label p) is l u o = refl
+    verdict_kind True is l u o = refl
+    verdict_kind (Not a) is l u o = ap not (known_at a l (ltb-true a here o) u (subst (λ m. Has (operands m) a) (sym is) (only_operand a)))
+    verdict_kind (And a b) is l u o =
         let low = and_parts (ltb a here) (ltb b here) o in
         λ k. known_at a l (ltb-true a here low.0) u (subst (λ m. Has (operands m) a) (sym is) (first_operand a b)) k && known_at b l (ltb-true b here low.1) u (subst (λ m. Has (operands m) b) (sym is) (second_operand a b)) k
-    verdict-kind (Or a b) is l u o =
+    verdict_kind (Or a b) is l u o =
         let low = and_parts (ltb a here) (ltb b here) o in
         λ k. known_at a l (ltb-true a here low.0) u (subst (λ m. Has (operands m) a) (sym is) (first_operand a b)) k || known_at b l (ltb-true b here low.1) u (subst (λ m. Has (operands m) b) (sym is) (second_operand a b)) k
-    verdict-kind (Previous a) is l u o =
+    verdict_kind (Previous a) is l u o =
         let less = ltb-true a here o in
         recalls.0 a ((selected ns (resting ns roots)).held_kept a (omega arith) (operand_used here a l less u (subst (λ m. Has (operands m) a) (sym is) (only_operand a))) (inr (here, l, u, is)))
-    verdict-kind (Since a b) is l u o =
+    verdict_kind (Since a b) is l u o =
         let low = and_parts (ltb a here) (ltb b here) o in
         let has = (selected ns (resting ns roots)).held_kept here l u (inl (ap lasting is)) in
         let tree : (j : ℕ) → true_at j here ≡ holds (tree_of (formulas ns) (Since a b)) τ j = λ j. ap (λ f. holds f τ j) (formulas_at ns here ok l ∙ ap (tree_of (formulas ns)) is) in
-        since-holds n (get_or (formulas ns) a truth) (get_or (formulas ns) b truth) (r.held here) (get_or known a false) (get_or known b false)
+        since_holds n (get_or (formulas ns) a truth) (get_or (formulas ns) b truth) (r.held here) (get_or known a false) (get_or known b false)
         (recalls.0 here has ∙ before_same n (λ j. true_at j here) (λ j. holds (tree_of (formulas ns) (Since a b)) τ j) tree)
         (known_at a l (ltb-true a here low.0) u (subst (λ m. Has (operands m) a) (sym is) (first_operand a b)))
         (known_at b l (ltb-true b here low.1) u (subst (λ m. Has (operands m) b) (sym is) (second_operand a b)))
-    verdict-kind (Always a) is l u o =
+    verdict_kind (Always a) is l u o =
         let has = (selected ns (resting ns roots)).failed_kept here l u (ap is_always is) in
         let tree : (j : ℕ) → not (true_at j here) ≡ not (holds (tree_of (formulas ns) (Always a)) τ j) = λ j. ap (λ f. not (holds f τ j)) (formulas_at ns here ok l ∙ ap (tree_of (formulas ns)) is) in
-        always-holds n (get_or (formulas ns) a truth) (r.failed here) (get_or known a false)
+        always_holds n (get_or (formulas ns) a truth) (r.failed here) (get_or known a false)
         (recalls.1 here has ∙ before_same n (λ j. not (true_at j here)) (λ j. not (holds (tree_of (formulas ns) (Always a)) τ j)) tree)
         (known_at a l (ltb-true a here o) u (subst (λ m. Has (operands m) a) (sym is) (only_operand a)))
-    verdict-kind (Once a) is l u o =
+    verdict_kind (Once a) is l u o =
         let has = (selected ns (resting ns roots)).held_kept here l u (inl (ap lasting is)) in
         let tree : (j : ℕ) → true_at j here ≡ holds (tree_of (formulas ns) (Once a)) τ j = λ j. ap (λ f. holds f τ j) (formulas_at ns here ok l ∙ ap (tree_of (formulas ns)) is) in
-        sometime-holds n (get_or (formulas ns) a truth) (r.held here) (get_or known a false)
+        sometime_holds n (get_or (formulas ns) a truth) (r.held here) (get_or known a false)
         (recalls.0 here has ∙ before_same n (λ j. true_at j here) (λ j. holds (tree_of (formulas ns) (Once a)) τ j) tree)
         (known_at a l (ltb-true a here o) u (subst (λ m. Has (operands m) a) (sym is) (only_operand a)))
 
     -- the next verdict is right too
-    next-right : (node : Node) → get_or ns here True ≡ node → here < length ns → Right n (known ++ (verdict (τ n) r here known node ∷ []))
-    next-right node is l i below_end u =
+    next_right : (node : Node) → get_or ns here True ≡ node → here < length ns → Right n (known ++ (verdict (τ n) r here known node ∷ []))
+    next_right node is l i below_end u =
         elim (cases_lt i here) [
           | inl less ↦ get_or_append_left known (verdict (τ n) r here known node ∷ []) false i less ∙ right i less u
           | inr past ↦
               let same : here ≡ i = omega (arith, length_push known (verdict (τ n) r here known node)) in
               subst (λ k. get_or (known ++ (verdict (τ n) r here known node ∷ [])) k false ≡ true_at n k) same
               (get_or_push known (verdict (τ n) r here known node) false here refl
-              ∙ verdict-kind node is l (subst Used (sym same) u) (ap (operands_below here) (sym is) ∙ earlier_at ns here ok l)
+              ∙ verdict_kind node is l (subst Used (sym same) u) (ap (operands_below here) (sym is) ∙ earlier_at ns here ok l)
               ∙ ap (λ f. holds f τ n) (sym (formulas_at ns here ok l ∙ ap (tree_of (formulas ns)) is)))
         ]
 
@@ -153,11 +153,11 @@ module _ (ns : List Node) (roots : List ℕ) (ok : earlier ns ≡ true) (τ : Tr
       verdicts_from_right n r recalls (front ++ (node ∷ [])) rest (known ++ (verdict (τ n) r (length known) known node ∷ []))
       (is ∙ sym (append_assoc front (node ∷ []) rest))
       (length_push known (verdict (τ n) r (length known) known node) ∙ ap (λ k. k + 1) long ∙ sym (length_push front node))
-      (next-right n r recalls known right node at (omega arith))
+      (next_right n r recalls known right node at (omega arith))
 
   -- the verdicts on the used nodes are what the truth lines say
-  pub verdicts-right : (n : ℕ) (r : Remembered) → Recalls n r → Right n (verdicts (τ n) r ns)
-  verdicts-right n r recalls = verdicts_from_right n r recalls [] ns [] refl refl (λ i l u. absurd (omega arith))
+  pub verdicts_right : (n : ℕ) (r : Remembered) → Recalls n r → Right n (verdicts (τ n) r ns)
+  verdicts_right n r recalls = verdicts_from_right n r recalls [] ns [] refl refl (λ i l u. absurd (omega arith))
 
   -- what the truth lines say of all nodes at position n
   abbrev pub told : ℕ → List Bool
@@ -180,8 +180,8 @@ module _ (ns : List Node) (roots : List ℕ) (ok : earlier ns ≡ true) (τ : Tr
   )
 
   -- the memory worked out from right verdicts at position n is the next one
-  pub memory-next : (n : ℕ) (vs : List Bool) → length vs ≡ length ns → Right n vs → memory_of items vs ≡ memory_at_state (suc n)
-  memory-next n vs long right =
-      memory-same items vs (told n)
+  pub memory_next : (n : ℕ) (vs : List Bool) → length vs ≡ length ns → Right n vs → memory_of items vs ≡ memory_at_state (suc n)
+  memory_next n vs long right =
+      memory_same items vs (told n)
       (λ i has. let sel = (selected ns (resting ns roots)).held_only i has in right i (omega (arith, sel.0)) sel.1 ∙ sym (told_at n i sel.0))
       (λ i has. let sel = (selected ns (resting ns roots)).failed_only i has in right i (omega (arith, sel.0)) sel.1 ∙ sym (told_at n i sel.0))

@@ -155,10 +155,10 @@ module _ (m : Model) (b : Book) (law : Lawful m) (few : length b.items ≤ 16) (
     narrow = r.labels;
     bounded = bounded_law;
     modest = r.bound;
-    grounded = λ s. cond_both (is_layer_state m b s) (m.ground (under s)) 0 (λ n. n < 4096) (λ t. law.grounded (under s)) (λ f. omega arith);
+    grounded = λ s. cond_both (is_layer_state m b s) (m.site (under s)) 0 (λ n. n < 4096) (λ t. law.grounded (under s)) (λ f. omega arith);
     no_mask = λ s f. cond-false (is_layer_state m b s) (m.mask (under s) + 2 ^ m.labels * bits_of_wishes b.wishes (judged m b s)) 0 f;
     no_reward = λ s f. cond-false (is_layer_state m b s) (earned (m.reward (under s)) b.wishes (judged m b s)) (pos 0) f;
-    no_ground = λ s f. cond-false (is_layer_state m b s) (m.ground (under s)) 0 f;
+    no_ground = λ s f. cond-false (is_layer_state m b s) (m.site (under s)) 0 f;
     silent = silent_law;
   }
 

@@ -62,7 +62,7 @@ pub(crate) fn reward_over<M: SiteModel>(m: &M, book: &WishBook, s: u64) -> i32
 }
 
 pub(crate) fn ground_over<M: SiteModel>(m: &M, book: &WishBook, s: u64) -> u64
-    ensures { result ≡ (layered (M.SiteModel.meaning m.now) (contents book.now)).ground s }
+    ensures { result ≡ (layered (M.SiteModel.meaning m.now) (contents book.now)).site s }
 {
     if state_over(m, book, s) {
         m.ground(s / 65536)

@@ -6,8 +6,8 @@ use Rattle.model.specs.declared.Outcome.{Outcome}
 use Rattle.model.specs.Models.{Model, Lawful, total}
 
 -- a state fits a u64, with room
-pub state-below : (m : Model) → Lawful m → (s : ℕ) → m.state s ≡ true → s < 2 ^ 60
-state-below m law s e = omega (arith, law.within s e, law.wide)
+pub state_below : (m : Model) → Lawful m → (s : ℕ) → m.state s ≡ true → s < 2 ^ 60
+state_below m law s e = omega (arith, law.within s e, law.wide)
 
 -- a mask has 24 bits at most
 pub mask_below : (m : Model) → Lawful m → (s : ℕ) → m.mask s < 2 ^ 24
@@ -26,8 +26,8 @@ target_state m law s a j o e =
     rw r.1 at (law.targets s a j o r.0)
 
 -- an action with an outcome is offered
-pub has-offered : (m : Model) → Lawful m → (s a j : ℕ) (o : Outcome) → slice_get (m.outcomes s a) j ≡ Some o → m.offered s a ≡ true
-has-offered m law s a j o e =
+pub has_offered : (m : Model) → Lawful m → (s a j : ℕ) (o : Outcome) → slice_get (m.outcomes s a) j ≡ Some o → m.offered s a ≡ true
+has_offered m law s a j o e =
     ⊎_elim (λ t. t) (λ f. let h = (nth_within (m.outcomes s a) j o e).0 in absurd (omega (arith, ap length (law.silent s a f)))) (cases_Bool (m.offered s a))
 
 -- no weight passes the total
@@ -40,4 +40,4 @@ weight_total (x ∷ xs) (suc j) o e = omega (arith, weight_total xs j o e)
 pub weight_within : (m : Model) → Lawful m → (s a j : ℕ) (o : Outcome) → slice_get (m.outcomes s a) j ≡ Some o → (1 ≤ o.weight) × (o.weight ≤ 8)
 weight_within m law s a j o e =
     let r = nth_within (m.outcomes s a) j o e in
-    (rw r.1 at (law.weighed s a j o r.0), omega (arith, weight_total (m.outcomes s a) j o e, law.whole s a (has-offered m law s a j o e)))
+    (rw r.1 at (law.weighed s a j o r.0), omega (arith, weight_total (m.outcomes s a) j o e, law.whole s a (has_offered m law s a j o e)))

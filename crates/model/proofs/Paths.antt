@@ -39,23 +39,23 @@ stands-push code done (x ∷ h) t =
     ap (λ l. code (done ++ (x ∷ [])) ∷ l) (stands-push code (done ++ (x ∷ [])) h t ∙ ap (λ l. stands code (done ++ (x ∷ [])) h ++ (code l ∷ [])) (append_assoc done (x ∷ []) (h ++ (t ∷ []))))
 
 module _ (g m : Model) (code mask : List ℕ → ℕ) (reward : List ℕ → ℤ) (u : Unfolds g m code mask reward) where
-  outcome-targets : (h : List ℕ) → History g h → (a : ℕ) → targets_of (m.outcomes (code h) a) ≡ map (λ t. code (h ++ (t ∷ []))) (targets_of (g.outcomes (final h) a))
-  outcome-targets h hist a = ap targets_of (u.moves h hist a) ∙ map-targets code h (g.outcomes (final h) a)
+  outcome_targets : (h : List ℕ) → History g h → (a : ℕ) → targets_of (m.outcomes (code h) a) ≡ map (λ t. code (h ++ (t ∷ []))) (targets_of (g.outcomes (final h) a))
+  outcome_targets h hist a = ap targets_of (u.moves h hist a) ∙ map-targets code h (g.outcomes (final h) a)
 
   -- what stands over a history of the ground model
   abbrev Over : List ℕ → List ℕ → Type 0
   Over h p = (p ≡ stands code [] h) × ((final p ≡ code h) × (grounds m p ≡ h))
 
-  pub one-over : (h : List ℕ) → History g h → (p : List ℕ) × (History m p × Over h p)
-  one-over h begun =
-      (m.start ∷ [], (begun, (ap (λ s. s ∷ []) (sym u.first), (sym u.first, ap (λ s. s ∷ []) (ap m.ground (sym u.first) ∙ u.sites (g.start ∷ []) begun)))))
-  one-over h (onward {h = before} a t hist off has) =
-      let up = one-over before hist in
+  pub one_over : (h : List ℕ) → History g h → (p : List ℕ) × (History m p × Over h p)
+  one_over h begun =
+      (m.start ∷ [], (begun, (ap (λ s. s ∷ []) (sym u.first), (sym u.first, ap (λ s. s ∷ []) (ap m.site (sym u.first) ∙ u.sites (g.start ∷ []) begun)))))
+  one_over h (onward {h = before} a t hist off has) =
+      let up = one_over before hist in
       let p = up.0 in
       let told = up.1.1 in
       let offered : m.offered (final up.0) a ≡ true = ap (λ s. m.offered s a) told.1.0 ∙ u.offers before hist a ∙ off in
       let target : Has (targets_of (m.outcomes (final up.0) a)) (code (before ++ (t ∷ []))) =
-      subst (λ s. Has (targets_of (m.outcomes s a)) (code (before ++ (t ∷ [])))) (sym told.1.0) (image_has (λ t. code (before ++ (t ∷ []))) (g.outcomes (final before) a) (m.outcomes (code before) a) t (outcome-targets before hist a) has) in (
+      subst (λ s. Has (targets_of (m.outcomes s a)) (code (before ++ (t ∷ [])))) (sym told.1.0) (image_has (λ t. code (before ++ (t ∷ []))) (g.outcomes (final before) a) (m.outcomes (code before) a) t (outcome_targets before hist a) has) in (
         up.0 ++ (code (before ++ (t ∷ [])) ∷ []),
         (
           onward a (code (before ++ (t ∷ []))) up.1.0 offered target,
@@ -63,7 +63,7 @@ module _ (g m : Model) (code mask : List ℕ → ℕ) (reward : List ℕ → ℤ
             ap (λ l. l ++ (code (before ++ (t ∷ [])) ∷ [])) told.0 ∙ sym (stands-push code [] before t),
             (
               final-push up.0 (code (before ++ (t ∷ []))),
-              map-append m.ground up.0 (code (before ++ (t ∷ [])) ∷ []) ∙ (λ i. told.1.1 i ++ ((u.sites (before ++ (t ∷ [])) (onward a t hist off has) ∙ final-push before t) i ∷ [])),
+              map-append m.site up.0 (code (before ++ (t ∷ [])) ∷ []) ∙ (λ i. told.1.1 i ++ ((u.sites (before ++ (t ∷ [])) (onward a t hist off has) ∙ final-push before t) i ∷ [])),
             ),
           ),
         ),
@@ -71,14 +71,14 @@ module _ (g m : Model) (code mask : List ℕ → ℕ) (reward : List ℕ → ℤ
 
   pub under_one : (p : List ℕ) → History m p → (h : List ℕ) × (History g h × Over h p)
   under_one p begun =
-      (g.start ∷ [], (begun, (ap (λ s. s ∷ []) (sym u.first), (sym u.first, ap (λ s. s ∷ []) (ap m.ground (sym u.first) ∙ u.sites (g.start ∷ []) begun)))))
+      (g.start ∷ [], (begun, (ap (λ s. s ∷ []) (sym u.first), (sym u.first, ap (λ s. s ∷ []) (ap m.site (sym u.first) ∙ u.sites (g.start ∷ []) begun)))))
   under_one p (onward {h = before} a t hist off has) =
       let down = under_one before hist in
       let h = down.0 in
       let told = down.1.1 in
       let here : m.offered (code down.0) a ≡ true = ap (λ s. m.offered s a) (sym told.1.0) ∙ off in
       let there : Has (targets_of (m.outcomes (code down.0) a)) t = subst (λ s. Has (targets_of (m.outcomes s a)) t) told.1.0 has in
-      let found = has_image (λ t. code (down.0 ++ (t ∷ []))) (g.outcomes (final down.0) a) (m.outcomes (code down.0) a) t (outcome-targets down.0 down.1.0 a) there in
+      let found = has_image (λ t. code (down.0 ++ (t ∷ []))) (g.outcomes (final down.0) a) (m.outcomes (code down.0) a) t (outcome_targets down.0 down.1.0 a) there in
       let longer : History g (down.0 ++ (found.0 ∷ [])) = onward a found.0 down.1.0 (sym (u.offers down.0 down.1.0 a) ∙ here) found.1.0 in (
         down.0 ++ (found.0 ∷ []),
         (
@@ -87,7 +87,7 @@ module _ (g m : Model) (code mask : List ℕ → ℕ) (reward : List ℕ → ℤ
             ap (λ l. l ++ (t ∷ [])) told.0 ∙ ap (λ s. stands code [] down.0 ++ (s ∷ [])) (sym found.1.1) ∙ sym (stands-push code [] down.0 found.0),
             (
               final-push before t ∙ sym found.1.1,
-              map-append m.ground before (t ∷ []) ∙ (λ i. told.1.1 i ++ ((ap m.ground (sym found.1.1) ∙ u.sites (down.0 ++ (found.0 ∷ [])) longer ∙ final-push down.0 found.0) i ∷ [])),
+              map-append m.site before (t ∷ []) ∙ (λ i. told.1.1 i ++ ((ap m.site (sym found.1.1) ∙ u.sites (down.0 ++ (found.0 ∷ [])) longer ∙ final-push down.0 found.0) i ∷ [])),
             ),
           ),
         ),
@@ -96,7 +96,7 @@ module _ (g m : Model) (code mask : List ℕ → ℕ) (reward : List ℕ → ℤ
   -- each history of the ground model has just one above it
   pub one_path_above : OnePathAbove g m
   one_path_above = record {
-    one = λ h hist. let up = one-over h hist in (up.0, (up.1.0, up.1.1.1.1));
+    one = λ h hist. let up = one_over h hist in (up.0, (up.1.0, up.1.1.1.1));
     only = λ p q hp hq same.
         let a = under_one p hp in
         let b = under_one q hq in

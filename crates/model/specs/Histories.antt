@@ -25,7 +25,7 @@ along code h o = record { target = code (h ++ (o.target ∷ [])); weight = o.wei
 pub record Unfolds (g m : Model) (code : List ℕ → ℕ) (mask : List ℕ → ℕ) (reward : List ℕ → ℤ) : Type 0 where
   pub first : code (g.start ∷ []) ≡ m.start
   pub states : (h : List ℕ) → History g h → m.state (code h) ≡ true
-  pub sites : (h : List ℕ) → History g h → m.ground (code h) ≡ final h
+  pub sites : (h : List ℕ) → History g h → m.site (code h) ≡ final h
   pub masks : (h : List ℕ) → History g h → m.mask (code h) ≡ mask h
   pub rewards : (h : List ℕ) → History g h → m.reward (code h) ≡ reward h
   pub offers : (h : List ℕ) → History g h → (a : ℕ) → m.offered (code h) a ≡ g.offered (final h) a
@@ -33,7 +33,7 @@ pub record Unfolds (g m : Model) (code : List ℕ → ℕ) (mask : List ℕ → 
 
 -- the histories of m that stand over histories of g: there is one over each, and only one
 abbrev pub grounds : Model → List ℕ → List ℕ
-grounds m p = map m.ground p
+grounds m p = map m.site p
 
 pub record OnePathAbove (g m : Model) : Type 0 where
   pub one : (h : List ℕ) → History g h → (p : List ℕ) × (History m p × (grounds m p ≡ h))

@@ -8,7 +8,7 @@ idle = record {
   state = λ s. (s == 0);
   mask = λ s. 0;
   reward = λ s. pos 0;
-  ground = λ s. 0;
+  site = λ s. 0;
   offered = λ s a. (s == 0) && (a == 0);
   outcomes = λ s a. cond (s == 0 && a == 0) (record { target = 0; weight = 8 } ∷ []) [];
   labels = 0;

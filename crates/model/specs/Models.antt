@@ -6,13 +6,13 @@ use Rattle.std.specs.Option.{option_map}
 use Rattle.std.specs.List.{slice_get}
 use Rattle.model.specs.declared.Outcome.{Outcome}
 
--- `ground` is the state of the ground model that a layered state stands over
+-- `site` is the state of the ground model that a layered state stands over
 pub record Model : Type 0 where
   pub start : ℕ
   pub state : ℕ → Bool
   pub mask : ℕ → ℕ
   pub reward : ℕ → ℤ
-  pub ground : ℕ → ℕ
+  pub site : ℕ → ℕ
   -- a state, then an action
   pub offered : ℕ → ℕ → Bool
   pub outcomes : ℕ → ℕ → List Outcome
@@ -51,16 +51,16 @@ pub record Lawful (m : Model) : Type 0 where
   pub narrow : m.labels ≤ 24
   pub bounded : (s : ℕ) → unsigned_abs (m.reward s) ≤ m.bound
   pub modest : m.bound ≤ 2000
-  pub grounded : (s : ℕ) → m.ground s < 4096
+  pub grounded : (s : ℕ) → m.site s < 4096
   -- the empty answers
   pub no_mask : (s : ℕ) → m.state s ≡ false → m.mask s ≡ 0
   pub no_reward : (s : ℕ) → m.state s ≡ false → m.reward s ≡ pos 0
-  pub no_ground : (s : ℕ) → m.state s ≡ false → m.ground s ≡ 0
+  pub no_ground : (s : ℕ) → m.state s ≡ false → m.site s ≡ 0
   pub silent : (s a : ℕ) → m.offered s a ≡ false → m.outcomes s a ≡ []
 
 -- each state is its own ground
 pub record Ground (m : Model) : Type 0 where
-  pub own : (s : ℕ) → m.state s ≡ true → m.ground s ≡ s
+  pub own : (s : ℕ) → m.state s ≡ true → m.site s ≡ s
   pub small : m.span ≤ 4096
 
 -- the states are exactly the numbers below the span

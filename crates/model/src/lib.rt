@@ -45,7 +45,7 @@ pub trait SiteModel {
         ensures reward { result ≡ (meaning self.now).reward s };
 
     fn ground(&self, s: u64) -> u64
-        ensures ground { result ≡ (meaning self.now).ground s };
+        ensures site { result ≡ (meaning self.now).site s };
 
     fn offers(&self, s: u64, a: u32) -> bool
         ensures offered { result ≡ (meaning self.now).offered s a };

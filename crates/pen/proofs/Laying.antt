@@ -59,9 +59,9 @@ laid_more vs w n bs room (count, (fit, is)) =
     )
 
 -- the same, where a test said that the words so far were not too many
-pub put-more : (full : Bool) → full ≡ false → (vs : List ℕ) (w n : ℕ) (bs : List ℕ) → 4 ≤ length bs - 4 * n → LaidIn vs full n bs → LaidIn (vs ++ (w ∷ [])) full (n + 1) (with_word bs n w)
-put-more false e vs w n bs room h = laid_more vs w n bs room h
-put-more true e vs w n bs room h = let z : ◌≡◌ {A = ℕ} 0 1 = cc in absurd (omega arith)
+pub put_more : (full : Bool) → full ≡ false → (vs : List ℕ) (w n : ℕ) (bs : List ℕ) → 4 ≤ length bs - 4 * n → LaidIn vs full n bs → LaidIn (vs ++ (w ∷ [])) full (n + 1) (with_word bs n w)
+put_more false e vs w n bs room h = laid_more vs w n bs room h
+put_more true e vs w n bs room h = let z : ◌≡◌ {A = ℕ} 0 1 = cc in absurd (omega arith)
 
 -- one word more where there is no room
 pub put_short : (full : Bool) → full ≡ false → (vs : List ℕ) (w n : ℕ) (bs : List ℕ) → length bs - 4 * n < 4 → LaidIn vs full n bs → LaidIn (vs ++ (w ∷ [])) true n bs

@@ -16,9 +16,9 @@ use Rattle.layer.specs.Records.{code_over, mask_over, reward_over, SoundBook}
 use Rattle.layer.proofs.Unfolds.{layer_unfolds}
 use Rattle.pile.specs.Piles.{Floor, piled, Shown, on_ground, with_floor, with_floors, SoundFloor, SoundFloors, shown_on, Keeps}
 
-final-state : (g : Model) → Lawful g → (h : List ℕ) → History g h → g.state (final h) ≡ true
-final-state g law h begun = law.starts
-final-state g law h (onward {h = before} a t hist off (k, l, at)) =
+final_state : (g : Model) → Lawful g → (h : List ℕ) → History g h → g.state (final h) ≡ true
+final_state g law h begun = law.starts
+final_state g law h (onward {h = before} a t hist off (k, l, at)) =
     let os = g.outcomes (final before) a in
     let inside : k < length (g.outcomes (final before) a) = omega (arith, length-map (g.outcomes (final before) a) (λ o. o.target)) in
     let is : (get_or (g.outcomes (final before) a) k (record { target = 0; weight = 0 })).target ≡ t = sym (get_or-map (λ o. o.target) (g.outcomes (final before) a) k (record { target = 0; weight = 0 }) 0 inside) ∙ at 0 in
@@ -29,11 +29,11 @@ map_keeps h [] = refl
 map_keeps h (o ∷ os) = λ i. record { target = final-push h o.target i; weight = o.weight } ∷ map_keeps h os i
 
 -- a ground model unfolds itself
-ground-unfolds : (g : Model) → Lawful g → Ground g → Unfolds g g final (λ h. g.mask (final h)) (λ h. g.reward (final h))
-ground-unfolds g law ground = record {
+ground_unfolds : (g : Model) → Lawful g → Ground g → Unfolds g g final (λ h. g.mask (final h)) (λ h. g.reward (final h))
+ground_unfolds g law ground = record {
   first = refl;
-  states = final-state g law;
-  sites = λ h hist. ground.own (final h) (final-state g law h hist);
+  states = final_state g law;
+  sites = λ h hist. ground.own (final h) (final_state g law h hist);
   masks = λ h hist. refl;
   rewards = λ h hist. refl;
   offers = λ h hist a. refl;
@@ -41,9 +41,9 @@ ground-unfolds g law ground = record {
 }
 
 -- a sound book on a model that unfolds the ground model
-sound-unfolds : (g m : Model) (sh : Shown) → Unfolds g m sh.code sh.mask sh.reward → (b : Book) → SoundBook b
+sound_unfolds : (g m : Model) (sh : Shown) → Unfolds g m sh.code sh.mask sh.reward → (b : Book) → SoundBook b
     → Unfolds g (layered m b) (code_over sh.code sh.mask b) (mask_over m.labels sh.mask b) (reward_over sh.mask sh.reward b)
-sound-unfolds g m sh u b ok =
+sound_unfolds g m sh u b ok =
     let parts = and_parts (earlier b.nodes) (all (good_wish (length b.nodes)) b.wishes) ok.names in
     let same : record { nodes = b.nodes; wishes = b.wishes; items = items_over b.nodes b.wishes } ≡ b = λ i. record { nodes = b.nodes; wishes = b.wishes; items = sym ok.remembers i } in
     subst (λ x. Unfolds g (layered m x) (code_over sh.code sh.mask x) (mask_over m.labels sh.mask x) (reward_over sh.mask sh.reward x)) same
@@ -57,7 +57,7 @@ floor_unfolds g m sh None ok u = u
 floor_unfolds g m sh (Some b) ok u = by_fit (fits m b)
   where
     by_fit : (t : Bool) → UnfoldsBy g (cond t (layered m b) m) (cond t (record { code = code_over sh.code sh.mask b; mask = mask_over m.labels sh.mask b; reward = reward_over sh.mask sh.reward b }) sh)
-    by_fit true = sound-unfolds g m sh u b ok
+    by_fit true = sound_unfolds g m sh u b ok
     by_fit false = u
 
 floors_unfold : (g m : Model) (sh : Shown) (fs : List Floor) → SoundFloors fs → UnfoldsBy g m sh → UnfoldsBy g (piled m fs) (with_floors m sh fs)
@@ -67,7 +67,7 @@ floors_unfold g m sh (f ∷ fs) ok u = floors_unfold g (over m f) (with_floor m 
 -- the promise
 pub pile_keeps : (g : Model) → Lawful g → Ground g → (fs : List Floor) → SoundFloors fs → Keeps g fs
 pile_keeps g law ground fs ok =
-    let u = floors_unfold g g (on_ground g) fs ok (ground-unfolds g law ground) in
+    let u = floors_unfold g g (on_ground g) fs ok (ground_unfolds g law ground) in
     record {
       unfolds = u;
       one_path = one_path_above g (piled g fs) (shown_on g fs).code (shown_on g fs).mask (shown_on g fs).reward u;

@@ -26,12 +26,12 @@ pub fn floor<M: SiteModel>(below: M, book: Option<WishBook>) -> Layer<M>
 
 // The books laid on the ground model, the first one lowest.
 pub fn stack<G: GroundModel>(
-    ground: G,
+    bottom: G,
     first: Option<WishBook>,
     second: Option<WishBook>,
     third: Option<WishBook>,
 ) -> Three<G>
-    ensures { meaning_of (meaning_of (meaning_of (λ f. G.SiteModel.meaning f.ground))) result ≡ piled (G.SiteModel.meaning ground) (option_map contents first ∷ (option_map contents second ∷ (option_map contents third ∷ []))) }
+    ensures { meaning_of (meaning_of (meaning_of (λ f. G.SiteModel.meaning f.bottom))) result ≡ piled (G.SiteModel.meaning bottom) (option_map contents first ∷ (option_map contents second ∷ (option_map contents third ∷ []))) }
 {
-    floor(floor(floor(Footing::new(ground), first), second), third)
+    floor(floor(floor(Footing::new(bottom), first), second), third)
 }

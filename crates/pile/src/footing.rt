@@ -24,63 +24,63 @@ pub trait Pile: SiteModel {
 // A ground model, whoever wrote it, as the bottom of a pile.
 #[derive(Drop)]
 pub struct Footing<G> {
-    ground: G,
+    bottom: G,
 }
 
 impl<G: GroundModel> Footing<G> {
-    pub fn new(ground: G) -> Footing<G>
-        ensures { result.ground ≡ ground }
+    pub fn new(bottom: G) -> Footing<G>
+        ensures { result.bottom ≡ bottom }
     {
-        Footing { ground }
+        Footing { bottom }
     }
 }
 
 impl<G: GroundModel> SiteModel for Footing<G> {
-    ghost meaning = { λ f. G.SiteModel.meaning f.ground };
+    ghost meaning = { λ f. G.SiteModel.meaning f.bottom };
 
-    ghost lawful = { λ f. G.SiteModel.lawful f.ground };
+    ghost lawful = { λ f. G.SiteModel.lawful f.bottom };
 
     fn start(&self) -> u64 {
-        self.ground.start()
+        self.bottom.start()
     }
 
     fn is_state(&self, s: u64) -> bool {
-        self.ground.is_state(s)
+        self.bottom.is_state(s)
     }
 
     fn mask(&self, s: u64) -> u32 {
-        self.ground.mask(s)
+        self.bottom.mask(s)
     }
 
     fn reward(&self, s: u64) -> i32 {
-        self.ground.reward(s)
+        self.bottom.reward(s)
     }
 
     fn ground(&self, s: u64) -> u64 {
-        self.ground.ground(s)
+        self.bottom.ground(s)
     }
 
     fn offers(&self, s: u64, a: u32) -> bool {
-        self.ground.offers(s, a)
+        self.bottom.offers(s, a)
     }
 
     fn outcomes(&self, s: u64, a: u32) -> Outcomes {
-        self.ground.outcomes(s, a)
+        self.bottom.outcomes(s, a)
     }
 
     fn sizes(&self) -> Sizes {
-        self.ground.sizes()
+        self.bottom.sizes()
     }
 }
 
 impl<G: GroundModel> Pile for Footing<G> {
-    ghost base = { λ f. G.SiteModel.meaning f.ground };
+    ghost base = { λ f. G.SiteModel.meaning f.bottom };
 
     ghost floors = { λ f. [] };
 
     ghost stands = { Prim.search rules };
 
-    ghost lawfully = { λ f. G.SiteModel.lawful f.ground };
+    ghost lawfully = { λ f. G.SiteModel.lawful f.bottom };
 
     ghost grounded = { Prim.search rules };
 

@@ -12,14 +12,14 @@ use Rattle.register.proofs.Keys.{enter_new, enter-length, enter_all-append, ente
 use Rattle.reach.specs.Adding.{Onto}
 use Rattle.reach.specs.Reached.{Lists, Searched}
 use Rattle.reach.specs.Search.{targets_below, leads_to, listed_after, codes_of}
-use Rattle.reach.proofs.Turns.{listed_start, listed_next, listed-within, listed_complete, codes-some}
+use Rattle.reach.proofs.Turns.{listed_start, listed_next, listed_within, listed_complete, codes_some}
 use Rattle.reach.proofs.Searching.{search_lists, search_exceeds}
 
 pub listed-length : (c : Codes) → length (listed c) ≡ c.len
 listed-length c = length-take-le c.len c.table.now c.fits
 
-pub onto-self : (c : Codes) → Onto c c
-onto-self c = record { more = omega arith; rest = refl; room = refl; lent = refl }
+pub onto_self : (c : Codes) → Onto c c
+onto_self c = record { more = omega arith; rest = refl; room = refl; lent = refl }
 
 pub onto_both : (a b c : Codes) → Onto a b → Onto b c → Onto a c
 onto_both a b c ab bc = record {
@@ -30,8 +30,8 @@ onto_both a b c ab bc = record {
 }
 
 -- one code entered
-pub onto-entered : (a b : Codes) (k : ℕ) → listed b ≡ enter eqb k (listed a) → drop b.len b.table.now ≡ drop b.len a.table.now → length b.table.now ≡ length a.table.now → b.table.ghost_name ≡ a.table.ghost_name → Onto a b
-onto-entered a b k e rest room lent = record {
+pub onto_entered : (a b : Codes) (k : ℕ) → listed b ≡ enter eqb k (listed a) → drop b.len b.table.now ≡ drop b.len a.table.now → length b.table.now ≡ length a.table.now → b.table.ghost_name ≡ a.table.ghost_name → Onto a b
+onto_entered a b k e rest room lent = record {
   more = omega (arith, enter-length eqb k (listed a), ap length e, listed-length a, listed-length b);
   rest = rest;
   room = room;
@@ -52,22 +52,22 @@ pub added_more : (held now' after ks : List ℕ) (k : ℕ) → now' ≡ enter_al
 added_more held now' after ks k e f = f ∙ ap (enter eqb k) e ∙ sym (enter_all-append eqb held ks (k ∷ []))
 
 -- several keys more
-pub added-all : (held now' after ks js : List ℕ) → now' ≡ enter_all eqb held ks → after ≡ enter_all eqb now' js → after ≡ enter_all eqb held (ks ++ js)
-added-all held now' after ks js e f = f ∙ ap (λ l. enter_all eqb l js) e ∙ sym (enter_all-append eqb held ks js)
+pub added_all : (held now' after ks js : List ℕ) → now' ≡ enter_all eqb held ks → after ≡ enter_all eqb now' js → after ≡ enter_all eqb held (ks ++ js)
+added_all held now' after ks js e f = f ∙ ap (λ l. enter_all eqb l js) e ∙ sym (enter_all-append eqb held ks js)
 
 -- a new key that finds no room
-pub over-full : (held now' ks rest : List ℕ) (k room : ℕ) → now' ≡ enter_all eqb held ks → place_of eqb k now' ≡ length now' → length now' ≡ room → room < length (enter_all eqb held (ks ++ (k ∷ rest)))
-over-full held now' ks rest k room e new full =
+pub over_full : (held now' ks rest : List ℕ) (k room : ℕ) → now' ≡ enter_all eqb held ks → place_of eqb k now' ≡ length now' → length now' ≡ room → room < length (enter_all eqb held (ks ++ (k ∷ rest)))
+over_full held now' ks rest k room e new full =
     let all : enter_all eqb held (ks ++ (k ∷ rest)) ≡ enter_all eqb (now' ++ (k ∷ [])) rest =
     enter_all-append eqb held ks (k ∷ rest) ∙ ap (λ l. enter_all eqb (enter eqb k l) rest) (sym e) ∙ ap (λ l. enter_all eqb l rest) (enter_new eqb k now' (omega arith)) in
     omega (arith, ap length all, enter_all-length eqb (now' ++ (k ∷ [])) rest, length_push now' k)
 
 -- the targets of outcomes, up to one and from it on
-pub targets-more : (os : List Outcome) (i : ℕ) (d : Outcome) → i < length os → targets_of (take (i + 1) os) ≡ targets_of (take i os) ++ ((get_or os i d).target ∷ [])
-targets-more os i d l = map_more (λ o. o.target) os i d l
+pub targets_more : (os : List Outcome) (i : ℕ) (d : Outcome) → i < length os → targets_of (take (i + 1) os) ≡ targets_of (take i os) ++ ((get_or os i d).target ∷ [])
+targets_more os i d l = map_more (λ o. o.target) os i d l
 
-pub targets-split : (os : List Outcome) (i : ℕ) (d : Outcome) → i < length os → targets_of os ≡ targets_of (take i os) ++ ((get_or os i d).target ∷ targets_of (drop (i + 1) os))
-targets-split os i d l =
+pub targets_split : (os : List Outcome) (i : ℕ) (d : Outcome) → i < length os → targets_of os ≡ targets_of (take i os) ++ ((get_or os i d).target ∷ targets_of (drop (i + 1) os))
+targets_split os i d l =
     ap targets_of (sym (take-append-drop i os))
     ∙ map-append (λ o. o.target) (take i os) (drop i os)
     ∙ ap (λ r. targets_of (take i os) ++ targets_of r) (drop_more os i d l)
@@ -88,8 +88,8 @@ below_grows held m s a (suc b) =
     )
 
 -- one action's targets that find no room
-pub over-action : (held now' : List ℕ) (m : Model) (s a room : ℕ) → a < m.actions → now' ≡ enter_all eqb held (targets_below m s a) → room < length (enter_all eqb now' (targets_of (m.outcomes s a))) → room < length (enter_all eqb held (leads_to m s))
-over-action held now' m s a room l e over =
+pub over_action : (held now' : List ℕ) (m : Model) (s a room : ℕ) → a < m.actions → now' ≡ enter_all eqb held (targets_below m s a) → room < length (enter_all eqb now' (targets_of (m.outcomes s a))) → room < length (enter_all eqb held (leads_to m s))
+over_action held now' m s a room l e over =
     let rest : m.actions - suc a + suc a ≡ m.actions = omega arith in
     omega (
       arith,
@@ -107,7 +107,7 @@ pub search_turn_full : (m : Model) → Lawful m → (room n : ℕ) (held codes :
 search_turn_full m law room n held codes s e l few at over =
     let l' : n < length (listed_after m n) = omega (arith, ap length e) in
     let next : enter_all eqb held (leads_to m s) ≡ listed_after m (suc n) = (λ i. enter_all eqb (e i) (leads_to m ((at ∙ ap (λ h. get_or h n 0) e) i))) ∙ sym (listed_next m n l') in
-    search_full m law room codes (omega (arith, ap length next, listed-within m (suc n) (omega arith)))
+    search_full m law room codes (omega (arith, ap length next, listed_within m (suc n) (omega arith)))
 
 pub search_turn : (m : Model) (n : ℕ) (held after : List ℕ) (s : ℕ) → held ≡ listed_after m n → n < length held → s ≡ get_or held n 0 → after ≡ enter_all eqb held (leads_to m s) → (after ≡ listed_after m (n + 1)) × (n + 1 ≤ length after)
 search_turn m n held after s e l at turn =

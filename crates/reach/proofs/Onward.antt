@@ -15,8 +15,8 @@ pub reached_start : (m : Model) → Reached m m.start
 reached_start m = (m.start ∷ [], (begun, refl))
 
 -- an action with a target is offered
-has-offered : (m : Model) → Lawful m → (s a t : ℕ) → Has (targets_of (m.outcomes s a)) t → m.offered s a ≡ true
-has-offered m law s a t h =
+has_offered : (m : Model) → Lawful m → (s a t : ℕ) → Has (targets_of (m.outcomes s a)) t → m.offered s a ≡ true
+has_offered m law s a t h =
     ⊎_elim (λ e. e)
     (λ f. absurd (omega (arith, h.1, ap (λ os. length (targets_of os)) (law.silent s a f))))
     (cases_Bool (m.offered s a))
@@ -25,7 +25,7 @@ has-offered m law s a t h =
 pub reached_on : (m : Model) → Lawful m → (s a t : ℕ) → Reached m s → Has (targets_of (m.outcomes s a)) t → Reached m t
 reached_on m law s a t (p, (hist, e)) h =
     let there : Has (targets_of (m.outcomes (final p) a)) t = subst (λ c. Has (targets_of (m.outcomes c a)) t) (sym e) h in
-    (p ++ (t ∷ []), (onward a t hist (has-offered m law (final p) a t there) there, final-push p t))
+    (p ++ (t ∷ []), (onward a t hist (has_offered m law (final p) a t there) there, final-push p t))
 
 reached_below : (m : Model) → Lawful m → (s : ℕ) → Reached m s → (n : ℕ) → All (Reached m) (targets_below m s n)
 reached_below m law s r zero = tt
@@ -39,11 +39,11 @@ pub reached_leads : (m : Model) → Lawful m → (s : ℕ) → Reached m s → A
 reached_leads m law s r = reached_below m law s r m.actions
 
 -- a target of an action below n is among the targets of those actions
-has-below : (m : Model) (s a t n : ℕ) → a < n → Has (targets_of (m.outcomes s a)) t → Has (targets_below m s n) t
-has-below m s a t zero l h = absurd (omega arith)
-has-below m s a t (suc n) l h =
+has_below : (m : Model) (s a t n : ℕ) → a < n → Has (targets_of (m.outcomes s a)) t → Has (targets_below m s n) t
+has_below m s a t zero l h = absurd (omega arith)
+has_below m s a t (suc n) l h =
     ⊎_elim
-    (λ (less : a < n). has_append_left (targets_below m s n) (targets_of (m.outcomes s n)) t (has-below m s a t n less h))
+    (λ (less : a < n). has_append_left (targets_below m s n) (targets_of (m.outcomes s n)) t (has_below m s a t n less h))
     (λ (more : n ≤ a).
     let e : a ≡ n = omega arith in
     has_append_right (targets_below m s n) (targets_of (m.outcomes s n)) t (subst (λ b. Has (targets_of (m.outcomes s b)) t) e h))
@@ -51,7 +51,7 @@ has-below m s a t (suc n) l h =
 
 -- a target of an offered action is among what the state leads to
 pub has_leads : (m : Model) → Lawful m → (s a t : ℕ) → m.offered s a ≡ true → Has (targets_of (m.outcomes s a)) t → Has (leads_to m s) t
-has_leads m law s a t off h = has-below m s a t m.actions (law.offers s a off).1 h
+has_leads m law s a t off h = has_below m s a t m.actions (law.offers s a off).1 h
 
 -- what a listed state leads to comes up
 pub has_coming : (m : Model) (cs : List ℕ) (c t : ℕ) → Has cs c → Has (leads_to m c) t → Has (coming_up m cs) t
@@ -74,11 +74,11 @@ target_state m law s a t (k, l, at) =
     subst (λ c. m.state c ≡ true) (sym (get_or-map (λ (o : Outcome). o.target) (m.outcomes s a) k d 0 inside) ∙ at 0)
     (law.targets s a k d inside)
 
-history-state : (m : Model) → Lawful m → (p : List ℕ) → History m p → m.state (final p) ≡ true
-history-state m law p begun = law.starts
-history-state m law p (onward {h = before} a t hist off has) =
+history_state : (m : Model) → Lawful m → (p : List ℕ) → History m p → m.state (final p) ≡ true
+history_state m law p begun = law.starts
+history_state m law p (onward {h = before} a t hist off has) =
     ap m.state (final-push before t) ∙ target_state m law (final before) a t has
 
 -- a reached code is a state
 pub reached_state : (m : Model) → Lawful m → (c : ℕ) → Reached m c → m.state c ≡ true
-reached_state m law c (p, (hist, e)) = ap m.state (sym e) ∙ history-state m law p hist
+reached_state m law c (p, (hist, e)) = ap m.state (sym e) ∙ history_state m law p hist

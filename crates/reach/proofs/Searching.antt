@@ -12,13 +12,13 @@ use Rattle.register.proofs.Keys.{enter_both}
 use Rattle.reach.specs.Reached.{Reached, coming_up, Lists, MoreThan}
 use Rattle.reach.specs.Search.{leads_to, listed_after, codes_of}
 use Rattle.reach.proofs.Onward.{has_coming, has_leads, has_target, reached_leads, reached_on, reached_start, reached_state}
-use Rattle.reach.proofs.Turns.{codes_are, listed-closed, listed_kept, listed_next, listed_same, listed_start}
+use Rattle.reach.proofs.Turns.{codes_are, listed_closed, listed_kept, listed_next, listed_same, listed_start}
 
 -- what holds of the listed keys and of those that come holds of all
-all-entered : {K : Type 0} (eq : K → K → Bool) (P : K → Type 0) (held ks : List K) → All P held → All P ks → All P (enter_all eq held ks)
-all-entered eq P held [] a b = a
-all-entered eq P held (k ∷ ks) a b =
-    all-entered eq P (enter eq k held) ks (enter_both eq k held (All P) (λ _. a) (λ _. All-push P held k a b.0)) b.1
+all_entered : {K : Type 0} (eq : K → K → Bool) (P : K → Type 0) (held ks : List K) → All P held → All P ks → All P (enter_all eq held ks)
+all_entered eq P held [] a b = a
+all_entered eq P held (k ∷ ks) a b =
+    all_entered eq P (enter eq k held) ks (enter_both eq k held (All P) (λ _. a) (λ _. All-push P held k a b.0)) b.1
 
 -- each listed code is reached
 all_reached : (m : Model) → Lawful m → (n : ℕ) → All (Reached m) (listed_after m n)
@@ -28,7 +28,7 @@ all_reached m law (suc n) =
     ⊎_elim
     (λ (l : n < length (listed_after m n)).
     subst (All (Reached m)) (sym (listed_next m n l))
-    (all-entered eqb (Reached m) (listed_after m n) (leads_to m (get_or (listed_after m n) n 0)) before
+    (all_entered eqb (Reached m) (listed_after m n) (leads_to m (get_or (listed_after m n) n 0)) before
     (reached_leads m law (get_or (listed_after m n) n 0) (All-get_or (Reached m) (listed_after m n) n 0 l before))))
     (λ (l : length (listed_after m n) ≤ n). subst (All (Reached m)) (sym (listed_same m n l)) before)
     (cases_lt n (length (listed_after m n)))
@@ -37,45 +37,45 @@ pub listed_reached : (m : Model) → Lawful m → (n c : ℕ) → Has (listed_af
 listed_reached m law n c h = all-has (Reached m) (listed_after m n) c (all_reached m law n) h
 
 -- no code is listed twice
-pub listed-distinct : (m : Model) (n : ℕ) → Distinct (listed_after m n)
-listed-distinct m n = (listed_kept m n).once
+pub listed_distinct : (m : Model) (n : ℕ) → Distinct (listed_after m n)
+listed_distinct m n = (listed_kept m n).once
 
 -- a list that has the start and what its states lead to has all that a history ends in
-closed-has : (m : Model) → Lawful m → (codes : List ℕ) → Kept (m.start ∷ coming_up m codes) codes → (p : List ℕ) → History m p → Has codes (final p)
-closed-has m law codes kept p begun = kept.every m.start (0, omega arith, λ d. refl)
-closed-has m law codes kept p (onward {h = before} a t hist off has) =
+closed_has : (m : Model) → Lawful m → (codes : List ℕ) → Kept (m.start ∷ coming_up m codes) codes → (p : List ℕ) → History m p → Has codes (final p)
+closed_has m law codes kept p begun = kept.every m.start (0, omega arith, λ d. refl)
+closed_has m law codes kept p (onward {h = before} a t hist off has) =
     let leads : Has (leads_to m (final before)) t = has_leads m law (final before) a t off has in
-    let up : Has (coming_up m codes) t = has_coming m codes (final before) t (closed-has m law codes kept before hist) leads in
+    let up : Has (coming_up m codes) t = has_coming m codes (final before) t (closed_has m law codes kept before hist) leads in
     subst (Has codes) (sym (final-push before t)) (kept.every t (has_append_right (m.start ∷ []) (coming_up m codes) t up))
 
 -- a list whose states have all had their turn is the list of the reached states
-pub turned-lists : (m : Model) → Lawful m → (n : ℕ) → length (listed_after m n) ≤ n → Lists m (listed_after m n)
-turned-lists m law n l =
-    let kept = listed-closed m n l in
+pub turned_lists : (m : Model) → Lawful m → (n : ℕ) → length (listed_after m n) ≤ n → Lists m (listed_after m n)
+turned_lists m law n l =
+    let kept = listed_closed m n l in
     record {
       once = kept.once;
       only = listed_reached m law n;
-      every = λ c r. subst (Has (listed_after m n)) r.1.1 (closed-has m law (listed_after m n) kept r.0 r.1.0);
+      every = λ c r. subst (Has (listed_after m n)) r.1.1 (closed_has m law (listed_after m n) kept r.0 r.1.0);
       order = kept;
     }
 
 pub search_lists : (m : Model) → Lawful m → length (codes_of m) ≤ 4096 → Lists m (codes_of m)
 search_lists m law l =
-    subst (Lists m) (sym (codes_are m)) (turned-lists m law 4096 (omega (arith, ap length (codes_are m))))
+    subst (Lists m) (sym (codes_are m)) (turned_lists m law 4096 (omega (arith, ap length (codes_are m))))
 
 -- a list of more than n reached states, at any turn
-pub listed-exceeds : (m : Model) → Lawful m → (k n : ℕ) → n < length (listed_after m k) → MoreThan m n
-listed-exceeds m law k n l = (listed_after m k, (listed-distinct m k, (l, listed_reached m law k)))
+pub listed_exceeds : (m : Model) → Lawful m → (k n : ℕ) → n < length (listed_after m k) → MoreThan m n
+listed_exceeds m law k n l = (listed_after m k, (listed_distinct m k, (l, listed_reached m law k)))
 
 pub search_exceeds : (m : Model) → Lawful m → (n : ℕ) → n < length (codes_of m) → MoreThan m n
-search_exceeds m law n l = listed-exceeds m law 4096 n (omega (arith, ap length (codes_are m)))
+search_exceeds m law n l = listed_exceeds m law 4096 n (omega (arith, ap length (codes_are m)))
 
 -- what a list of the reached states says of its codes
 
-pub lists-states : (m : Model) → Lawful m → (codes : List ℕ) → Lists m codes → (c : ℕ) → Has codes c → m.state c ≡ true
-lists-states m law codes lists c h = reached_state m law c (lists.only c h)
+pub lists_states : (m : Model) → Lawful m → (codes : List ℕ) → Lists m codes → (c : ℕ) → Has codes c → m.state c ≡ true
+lists_states m law codes lists c h = reached_state m law c (lists.only c h)
 
-pub lists-targets : (m : Model) → Lawful m → (codes : List ℕ) → Lists m codes → (c a j : ℕ) (d : Outcome) → Has codes c → j < length (m.outcomes c a) → Has codes (get_or (m.outcomes c a) j d).target
-lists-targets m law codes lists c a j d h l =
+pub lists_targets : (m : Model) → Lawful m → (codes : List ℕ) → Lists m codes → (c a j : ℕ) (d : Outcome) → Has codes c → j < length (m.outcomes c a) → Has codes (get_or (m.outcomes c a) j d).target
+lists_targets m law codes lists c a j d h l =
     lists.every (get_or (m.outcomes c a) j d).target
     (reached_on m law c a (get_or (m.outcomes c a) j d).target (lists.only c h) (has_target (m.outcomes c a) j d l))

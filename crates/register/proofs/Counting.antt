@@ -1,8 +1,8 @@
 -- The keys of a list are entered into a table one after another: once all are entered they stand first in it, and a key that is refused shows that they do not fit.
 use Rattle.std.proofs.Common.{◌≡◌, ℕ, ◌+◌, ◌-◌, ◌<◌, ◌≤◌, Bool, List, [], ◌∷◌, ◌++◌, length, get_or, take, drop, Some, None, Option, sym, ap, ◌∙◌, subst, arith}
 use Rattle.register.specs.Keys.{Decides, Kept, place_of, enter, enter_all, Counted}
-use Rattle.register.proofs.Keys.{enter_new, enter-length, enter_all-append, enter_all-more, enter_all-length, enter_all-take}
-use Rattle.register.proofs.Order.{enter_all-kept}
+use Rattle.register.proofs.Keys.{enter_new, enter-length, enter_all-append, enter_all_more, enter_all-length, enter_all-take}
+use Rattle.register.proofs.Order.{enter_all_kept}
 use Rattle.std.proofs.lemmas.List.{take_all, take-append-drop, length-take-le, length_push, drop-drop}
 
 pub counted : {K : Type 0} (eq : K → K → Bool) → Decides eq → (ks start before xs : List K) (n i m : ℕ) → n ≤ length xs → length ks ≤ i → take n xs ≡ enter_all eq [] (take i ks) → drop n xs ≡ drop n start → start ≡ before → m ≡ length (take n xs) → (x : List K) → x ≡ xs → Counted eq ks before x (Some m)
@@ -11,7 +11,7 @@ counted eq D ks start before xs n i m fits end held rest start_is len x e =
     let m-is : n ≡ m = sym (len ∙ length-take-le n xs fits) in
     let first : take m x ≡ enter_all eq [] ks =
     ap (take m) e ∙ subst (λ (j : ℕ). take j xs ≡ enter_all eq [] ks) m-is all in (
-      subst (Kept ks) (sym first) (enter_all-kept eq D ks),
+      subst (Kept ks) (sym first) (enter_all_kept eq D ks),
       first,
       len ∙ ap length all,
       ap (drop m) e ∙ subst (λ (j : ℕ). drop j xs ≡ drop j before) m-is (rest ∙ ap (drop n) start_is),
@@ -29,7 +29,7 @@ pub stepped : {K : Type 0} (eq : K → K → Bool) (ks before xs ys : List K) (n
 stepped eq ks before xs ys n m i k fits fits' l k-is held entered rest rest' =
     let more : n ≤ m =
     omega (arith, ap length entered, length-take-le n xs fits, length-take-le m ys fits', enter-length eq k (take n xs)) in (
-      entered ∙ ap (enter eq k) held ∙ ap (λ y. enter eq y (enter_all eq [] (take i ks))) k-is ∙ sym (enter_all-more eq [] ks i k l),
+      entered ∙ ap (enter eq k) held ∙ ap (λ y. enter eq y (enter_all eq [] (take i ks))) k-is ∙ sym (enter_all_more eq [] ks i k l),
       rest' ∙ drop_further xs before n m more rest,
     )
 
@@ -44,7 +44,7 @@ overfull eq ks held i k l e new =
     sym (enter_all-append eq [] (take (i + 1) ks) (drop (i + 1) ks))
     ∙ ap (enter_all eq []) (take-append-drop (i + 1) ks) in
     let next : enter_all eq [] (take (i + 1) ks) ≡ held ++ (get_or ks i k ∷ []) =
-    enter_all-more eq [] ks i k l
+    enter_all_more eq [] ks i k l
     ∙ ap (enter eq (get_or ks i k)) (sym e)
     ∙ enter_new eq (get_or ks i k) held (omega arith) in (
       omega (arith, ap length more, ap length next, length_push held (get_or ks i k), enter_all-length eq (enter_all eq [] (take (i + 1) ks)) (drop (i + 1) ks)),

@@ -64,8 +64,8 @@ enter_both eq k ks P there new =
     (λ l. subst P (sym (enter_new eq k ks l)) (new (omega (arith, place_of_le eq k ks))))
     (cases_lt (place_of eq k ks) (length ks))
 
-pub enter-place : {K : Type 0} (eq : K → K → Bool) (k : K) (ks : List K) → place_of eq k ks < length (enter eq k ks)
-enter-place eq k ks =
+pub enter_place : {K : Type 0} (eq : K → K → Bool) (k : K) (ks : List K) → place_of eq k ks < length (enter eq k ks)
+enter_place eq k ks =
     enter_both eq k ks (λ r. place_of eq k ks < length r) (λ l. l) (λ e. omega (arith, e, length_push ks k))
 
 -- the key stands at its place
@@ -97,8 +97,8 @@ push-distinct eq D k ks apart e i j d (l, m) h =
     place_of_before eq D k ks i d (omega arith) (sym at_i ∙ h ∙ get_or_push ks k d j last))
     (cases_lt j (length ks))
 
-pub enter-distinct : {K : Type 0} (eq : K → K → Bool) → Decides eq → (k : K) (ks : List K) → Distinct ks → Distinct (enter eq k ks)
-enter-distinct eq D k ks apart =
+pub enter_distinct : {K : Type 0} (eq : K → K → Bool) → Decides eq → (k : K) (ks : List K) → Distinct ks → Distinct (enter eq k ks)
+enter_distinct eq D k ks apart =
     enter_both eq k ks Distinct (λ _. apart) (push-distinct eq D k ks apart)
 
 pub enter_all-append : {K : Type 0} (eq : K → K → Bool) (held ks js : List K) → enter_all eq held (ks ++ js) ≡ enter_all eq (enter_all eq held ks) js
@@ -106,8 +106,8 @@ enter_all-append eq held [] js = refl
 enter_all-append eq held (k ∷ ks) js = enter_all-append eq (enter eq k held) ks js
 
 -- one key more
-pub enter_all-more : {K : Type 0} (eq : K → K → Bool) (held ks : List K) (i : ℕ) (d : K) → i < length ks → enter_all eq held (take (i + 1) ks) ≡ enter eq (get_or ks i d) (enter_all eq held (take i ks))
-enter_all-more eq held ks i d l =
+pub enter_all_more : {K : Type 0} (eq : K → K → Bool) (held ks : List K) (i : ℕ) (d : K) → i < length ks → enter_all eq held (take (i + 1) ks) ≡ enter eq (get_or ks i d) (enter_all eq held (take i ks))
+enter_all_more eq held ks i d l =
     ap (enter_all eq held) (take_more ks i d l) ∙ enter_all-append eq held (take i ks) (get_or ks i d ∷ [])
 
 pub enter_all-length : {K : Type 0} (eq : K → K → Bool) (held ks : List K) → (length held ≤ length (enter_all eq held ks)) × (length (enter_all eq held ks) ≤ length held + length ks)
@@ -127,10 +127,10 @@ enter_all-take eq held (k ∷ ks) =
     ∙ ap (take (length held)) (enter_all-take eq (enter eq k held) ks)
     ∙ enter-take eq k held
 
-pub enter_all-distinct : {K : Type 0} (eq : K → K → Bool) → Decides eq → (held ks : List K) → Distinct held → Distinct (enter_all eq held ks)
-enter_all-distinct eq D held [] apart = apart
-enter_all-distinct eq D held (k ∷ ks) apart =
-    enter_all-distinct eq D (enter eq k held) ks (enter-distinct eq D k held apart)
+pub enter_all_distinct : {K : Type 0} (eq : K → K → Bool) → Decides eq → (held ks : List K) → Distinct held → Distinct (enter_all eq held ks)
+enter_all_distinct eq D held [] apart = apart
+enter_all_distinct eq D held (k ∷ ks) apart =
+    enter_all_distinct eq D (enter eq k held) ks (enter_distinct eq D k held apart)
 
 -- a list with no key twice gives each key its own place
 pub place_of-get_or : {K : Type 0} (eq : K → K → Bool) → Decides eq → (ks : List K) (i : ℕ) (d : K) → Distinct ks → i < length ks → place_of eq (get_or ks i d) ks ≡ i

@@ -71,8 +71,8 @@ pub kept_more : {K : Type 0} (eq : K → K → Bool) → Decides eq → (k : K) 
 kept_more eq D k came held kept =
     enter_both eq k held (Kept (came ++ (k ∷ []))) (kept_there eq D k came held kept) (kept_new eq D k came held kept)
 
-pub kept-none : {K : Type 0} → Kept {K = K} [] []
-kept-none = record {
+pub kept_none : {K : Type 0} → Kept {K = K} [] []
+kept_none = record {
   once = λ i j d l. absurd (omega arith);
   only = λ x h. h;
   every = λ x h. h;
@@ -80,8 +80,8 @@ kept-none = record {
 }
 
 -- from what came before on
-pub kept-all : {K : Type 0} (eq : K → K → Bool) → Decides eq → (came held ks : List K) → Kept came held → Kept (came ++ ks) (enter_all eq held ks)
-kept-all eq D came held [] kept = subst (λ cs. Kept cs held) (sym (append-nil came)) kept
-kept-all eq D came held (k ∷ ks) kept =
+pub kept_all : {K : Type 0} (eq : K → K → Bool) → Decides eq → (came held ks : List K) → Kept came held → Kept (came ++ ks) (enter_all eq held ks)
+kept_all eq D came held [] kept = subst (λ cs. Kept cs held) (sym (append-nil came)) kept
+kept_all eq D came held (k ∷ ks) kept =
     subst (λ cs. Kept cs (enter_all eq (enter eq k held) ks)) (append_assoc came (k ∷ []) ks)
-    (kept-all eq D (came ++ (k ∷ [])) (enter eq k held) ks (kept_more eq D k came held kept))
+    (kept_all eq D (came ++ (k ∷ [])) (enter eq k held) ks (kept_more eq D k came held kept))

@@ -1,7 +1,7 @@
 -- The first n elements of a table are the keys: the write of a new key at n enters it, and they stay apart.
 use Rattle.std.proofs.Common.{◌≡◌, ℕ, ◌+◌, ◌<◌, ◌≤◌, Bool, true, false, List, length, get_or, take, set, Some, sym, ◌∙◌, subst, arith}
 use Rattle.register.specs.Keys.{Decides, Distinct, place_of, enter, Placed, Entered, Stands}
-use Rattle.register.proofs.Keys.{enter_new, enter-distinct, place_of_le, place_of_here, place_of_past}
+use Rattle.register.proofs.Keys.{enter_new, enter_distinct, place_of_le, place_of_here, place_of_past}
 use Rattle.std.proofs.lemmas.List.{take_more_set, length-take-le, get_or-take, get_or_read}
 
 pub written : {K : Type 0} (eq : K → K → Bool) (k : K) (xs : List K) (n : ℕ) → n < length xs → place_of eq k (take n xs) ≡ length (take n xs) → take (n + 1) (set xs n k) ≡ enter eq k (take n xs)
@@ -11,9 +11,9 @@ written eq k xs n l new = take_more_set xs n k l ∙ sym (enter_new eq k (take n
 pub entered : {K : Type 0} (eq : K → K → Bool) (k : K) (xs : List K) (n : ℕ) → n < length xs → place_of eq k (take n xs) ≡ length (take n xs) → Entered eq k (length xs) (take n xs) (take (n + 1) (set xs n k)) (Some n)
 entered eq k xs n l new = (sym (new ∙ length-take-le n xs (omega arith)), written eq k xs n l new)
 
-pub written-distinct : {K : Type 0} (eq : K → K → Bool) → Decides eq → (k : K) (xs : List K) (n : ℕ) → n < length xs → place_of eq k (take n xs) ≡ length (take n xs) → Distinct (take n xs) → Distinct (take (n + 1) (set xs n k))
-written-distinct eq D k xs n l new apart =
-    subst Distinct (sym (written eq k xs n l new)) (enter-distinct eq D k (take n xs) apart)
+pub written_distinct : {K : Type 0} (eq : K → K → Bool) → Decides eq → (k : K) (xs : List K) (n : ℕ) → n < length xs → place_of eq k (take n xs) ≡ length (take n xs) → Distinct (take n xs) → Distinct (take (n + 1) (set xs n k))
+written_distinct eq D k xs n l new apart =
+    subst Distinct (sym (written eq k xs n l new)) (enter_distinct eq D k (take n xs) apart)
 
 -- what is read below n is a key
 pub stands : {K : Type 0} (xs : List K) (n p : ℕ) (k : K) → n ≤ length xs → p < n → k ≡ get_or xs p k → Stands (take n xs) p (Some k)

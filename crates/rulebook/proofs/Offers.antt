@@ -6,7 +6,7 @@ use Rattle.model.specs.declared.Outcome.{Outcome}
 use Rattle.rulelayout.specs.Rule.{Act, Rule, valid}
 use Rattle.rulemodel.specs.Meaning.{landings, outcomes_from, met, no_act, act_at, is_layer_state, offers, rule_model}
 use Rattle.rulemodel.proofs.RuleLaws.{act_parts}
-use Rattle.rulemodel.proofs.Turns.{all-light}
+use Rattle.rulemodel.proofs.Turns.{all_light}
 use Rattle.rulebook.specs.declared.action.Action.{Action}
 use Rattle.rulebook.specs.Acts.{act_from, acts_from}
 
@@ -25,16 +25,16 @@ pub needs_unmet : (b : Rule) (s a : ℕ) (x : Act) → act_at b a ≡ x → met 
 needs_unmet b s a x e f =
     and_right (is_layer_state b s) _ (and_right (ltb a (length b.acts)) (met s (act_at b a)) (ap (met s) e ∙ f))
 
-pub needs-met : (b : Rule) (s a : ℕ) (x : Act) → s < 2 ^ b.switches → a < length b.acts → act_at b a ≡ x → met s x ≡ true → offers b s a ≡ true
-needs-met b s a x hs ha e t =
+pub needs_met : (b : Rule) (s a : ℕ) (x : Act) → s < 2 ^ b.switches → a < length b.acts → act_at b a ≡ x → met s x ≡ true → offers b s a ≡ true
+needs_met b s a x hs ha e t =
     and_from (is_layer_state b s) _ (lt-ltb s (2 ^ b.switches) hs)
     (and_from (ltb a (length b.acts)) (met s (act_at b a)) (lt-ltb a (length b.acts) ha) (ap (met s) e ∙ t))
 
 -- the outcomes of an action that is offered
-pub outcomes-told : (b : Rule) → valid b ≡ true → (s a : ℕ) (x : Act) (os : List Outcome) → offers b s a ≡ true → act_at b a ≡ x → os ≡ outcomes_from s x.effects → os ≡ (rule_model b).outcomes s a
-outcomes-told b v s a x os o e told =
+pub outcomes_told : (b : Rule) → valid b ≡ true → (s a : ℕ) (x : Act) (os : List Outcome) → offers b s a ≡ true → act_at b a ≡ x → os ≡ outcomes_from s x.effects → os ≡ (rule_model b).outcomes s a
+outcomes_told b v s a x os o e told =
     let parts = act_parts b v s a o in
     told
     ∙ ap (λ (act : Act). outcomes_from s act.effects) (sym e)
-    ∙ all-light s (act_at b a).effects parts.few (omega (arith, parts.whole))
+    ∙ all_light s (act_at b a).effects parts.few (omega (arith, parts.whole))
     ∙ sym (cond-true (offers b s a) (landings s (act_at b a).effects) [] o)

@@ -6,7 +6,7 @@ use Rattle.refusal.specs.declared.Refusal.{Refusal}
 use Rattle.refusal.specs.declared.Refusal.TheVariants.{WrongEnd}
 use Rattle.words.specs.Words.{first_word}
 use Rattle.words.specs.Format.{Step, Verdict, stop, Format, is_nil, closing, ending, run}
-use Rattle.words.proofs.Reading.{after, run-word}
+use Rattle.words.proofs.Reading.{after, run_word}
 use Rattle.rulelayout.specs.declared.Effect.{Effect}
 use Rattle.rulelayout.specs.Rule.{total, waits}
 use Rattle.rulebook.specs.declared.action.Action.{Action}
@@ -22,10 +22,10 @@ total-push : (es : List Effect) (e : Effect) → total (es ++ (e ∷ [])) ≡ to
 total-push [] e = omega arith
 total-push (x ∷ es) e = omega (arith, total-push es e)
 
-pub total-more : (es : List Effect) (i : ℕ) (d : Effect) → i < length es → total (take (i + 1) es) ≡ total (take i es) + (get_or es i d).weight
-total-more es i d h = ap total (take_more es i d h) ∙ total-push (take i es) (get_or es i d)
+pub total_more : (es : List Effect) (i : ℕ) (d : Effect) → i < length es → total (take (i + 1) es) ≡ total (take i es) + (get_or es i d).weight
+total_more es i d h = ap total (take_more es i d h) ∙ total-push (take i es) (get_or es i d)
 
-pub waits-first : (n : ℕ) (acts : List Action) (d : Action) → 1 ≤ n → n ≤ length acts → waits (acts_from n acts) ≡ (eqb (get_or acts 0 d).on 0 && eqb (get_or acts 0 d).off 0)
-waits-first zero acts d h k = absurd (omega arith)
-waits-first (suc n) [] d h k = absurd (omega arith)
-waits-first (suc n) (a ∷ acts) d h k = refl
+pub waits_first : (n : ℕ) (acts : List Action) (d : Action) → 1 ≤ n → n ≤ length acts → waits (acts_from n acts) ≡ (eqb (get_or acts 0 d).on 0 && eqb (get_or acts 0 d).off 0)
+waits_first zero acts d h k = absurd (omega arith)
+waits_first (suc n) [] d h k = absurd (omega arith)
+waits_first (suc n) (a ∷ acts) d h k = refl

@@ -4,7 +4,7 @@ ghost use Rattle.model.specs.Ways.{listed};
 ghost use Rattle.rulemodel.specs.Meaning.{act_at, met, offers, outcomes_from, rule_model};
 ghost use Rattle.rulebook.specs.Acts.{act_from, effects_of};
 ghost use Rattle.rulebook.specs.Contents.{contents};
-ghost use Rattle.rulemodel.proofs.RuleLaws.{rule_lawful, rule-ground, rule-numbered};
+ghost use Rattle.rulemodel.proofs.RuleLaws.{rule_lawful, rule_ground, rule_numbered};
 
 use crate::action::Action;
 use crate::book::RuleBook;
@@ -112,11 +112,11 @@ impl SiteModel for RuleBook {
 }
 
 impl GroundModel for RuleBook {
-    ghost based = { λ book. rule-ground (contents book) book.sound };
+    ghost based = { λ book. rule_ground (contents book) book.sound };
 }
 
 impl Numbered for RuleBook {
-    ghost numbered = { λ book. rule-numbered (contents book) book.sound };
+    ghost numbered = { λ book. rule_numbered (contents book) book.sound };
 
     fn count(&self) -> usize {
         states(self) as usize

@@ -1,5 +1,5 @@
--- The files that are read are just the encodings of valid rule books: `rule-faithful`. For a reader: every draft that reading
--- comes to is sound (`sound-steps`), and a sound draft that ends well is a valid book (`sound-valid`).
+-- The files that are read are just the encodings of valid rule books: `rule_faithful`. For a reader: every draft that reading
+-- comes to is sound (`sound_steps`), and a sound draft that ends well is a valid book (`sound_valid`).
 use Rattle.std.proofs.Common.{◌≡◌, ℕ, suc, ◌+◌, ◌*◌, ◌^◌, ◌<◌, ◌≤◌, Bool, true, false, cond, ◌&&◌, eqb, ltb, leb, ◌⊎◌, List, [], ◌∷◌, ◌++◌, length, Ok, Err, Result, sym, refl, ap, ◌∙◌, subst, inl, inr, arith, lit<}
 use Rattle.std.proofs.lemmas.Bool.{and_parts, and_from, eqb-true, eq-eqb, ltb-true, ltb-false, lt-ltb, le-ltb, cases_Bool, cond-true, cond-false}
 use Rattle.std.proofs.lemmas.List.{append-nil, append_assoc, length_push, length-append}
@@ -8,16 +8,16 @@ use Rattle.refusal.specs.declared.Refusal.TheVariants.{WrongKind, WrongTotal, No
 use Rattle.words.specs.Words.{field, kind, end_word}
 use Rattle.words.specs.Format.{Step, wrong, more, ends, check, Format, PlacesRight, ReadsBack, OnlyEncodings, Faithful}
 use Rattle.words.specs.Tests.{all, within}
-use Rattle.words.proofs.Fields.{kind-put}
-use Rattle.words.proofs.Tests.{all_push, check-more, check-ends, check-passed}
-use Rattle.words.proofs.Reading.{places-right}
-use Rattle.words.proofs.Encoding.{only_encodings, Passes, passes_append, reads-file}
+use Rattle.words.proofs.Fields.{kind_put}
+use Rattle.words.proofs.Tests.{all_push, check_more, check_ends, check_passed}
+use Rattle.words.proofs.Reading.{places_right}
+use Rattle.words.proofs.Encoding.{only_encodings, Passes, passes_append, reads_file}
 use Rattle.rulelayout.specs.declared.Effect.{Effect}
 use Rattle.rulelayout.specs.declared.RuleHead.{RuleHead}
 use Rattle.rulelayout.specs.declared.Masks.{Masks}
 use Rattle.rulelayout.specs.Rule.{Act, Rule, total, fits, good_effect, good_act, good_head, waits, valid}
 use Rattle.rulelayout.specs.Layout.{word_of_head, action_word, effect_word, effect_words, act_words, rule_words, test, head_of, masks_of, Draft, blank, listing, inside, whole, going, listed, act_of, effect_of, filled, read_word, rule_of, whole_rule, rule_format, Begun, Sound}
-use Rattle.rulelayout.proofs.OneWord.{test_ok, test-passed, head-only, head-parts, head-low, head-back, masks-only, masks-low, masks-back, count-parts}
+use Rattle.rulelayout.proofs.OneWord.{test_ok, test_passed, head_only, head_parts, head_low, head_back, masks_only, masks_low, masks_back, count_parts}
 
 -- the words read so far
 abbrev written : Draft → List ℕ
@@ -43,9 +43,9 @@ going_more : {X S : Type 0} (x : Result X Refusal) (next : X → Step S) (t : S)
 going_more (Ok y) next t e = (y, (refl, e))
 going_more (Err r) next t e = let z : ◌≡◌ {A = ℕ} 0 1 = cc in absurd (omega arith)
 
-going-ends : {X S : Type 0} (x : Result X Refusal) (next : X → Step S) → going x next ≡ ends → (y : X) × (next y ≡ ends)
-going-ends (Ok y) next e = (y, e)
-going-ends (Err r) next e = let z : ◌≡◌ {A = ℕ} 0 1 = cc in absurd (omega arith)
+going_ends : {X S : Type 0} (x : Result X Refusal) (next : X → Step S) → going x next ≡ ends → (y : X) × (next y ≡ ends)
+going_ends (Ok y) next e = (y, e)
+going_ends (Err r) next e = let z : ◌≡◌ {A = ℕ} 0 1 = cc in absurd (omega arith)
 
 more_is_not_end : {S : Type 0} {t : S} → more t ≡ ends → ⊥
 more_is_not_end e = let z : ◌≡◌ {A = ℕ} 0 1 = cc in omega arith
@@ -57,17 +57,17 @@ Steps s w t = Sound t × (written t ≡ written s ++ (w ∷ []))
 carry : (s : Draft) (w : ℕ) (u t : Draft) → more u ≡ more t → Steps s w u → Steps s w t
 carry s w u t e h = let same : u ≡ t = cc in subst (λ (x : Draft). Steps s w x) same h
 
-listed-sound : (h : RuleHead) (acts : List Act) (b : Bool) → ltb (length acts) h.actions ≡ b → Begun h acts → length acts ≤ h.actions → Sound (cond b (listing h acts) (whole h acts)) × (written (cond b (listing h acts) (whole h acts)) ≡ word_of_head h.switches h.actions h.start ∷ act_words acts)
-listed-sound h acts true e begun few = ((begun, ltb-true _ _ e), refl)
-listed-sound h acts false e begun few = ((begun, omega (arith, ltb-false (length acts) h.actions e)), refl)
+listed_sound : (h : RuleHead) (acts : List Act) (b : Bool) → ltb (length acts) h.actions ≡ b → Begun h acts → length acts ≤ h.actions → Sound (cond b (listing h acts) (whole h acts)) × (written (cond b (listing h acts) (whole h acts)) ≡ word_of_head h.switches h.actions h.start ∷ act_words acts)
+listed_sound h acts true e begun few = ((begun, ltb-true _ _ e), refl)
+listed_sound h acts false e begun few = ((begun, omega (arith, ltb-false (length acts) h.actions e)), refl)
 
 module _ (h : RuleHead) (acts : List Act) (m : Masks) (es : List Effect) (w : ℕ) (e : Masks) (sound : Sound (inside h acts m es))
     (fit : fits h.switches e.first e.second e.count ≡ true) (is : w ≡ effect_word (effect_of e)) where
   abbrev es' : List Effect
   es' = es ++ (effect_of e ∷ [])
 
-  all-good : all (good_effect h.switches) es' ≡ true
-  all-good = all_push (good_effect h.switches) es (effect_of e) sound.3 fit
+  all_good : all (good_effect h.switches) es' ≡ true
+  all_good = all_push (good_effect h.switches) es (effect_of e) sound.3 fit
 
   effects_then : effect_words es' ≡ effect_words es ++ (w ∷ [])
   effects_then = effect_words_push es (effect_of e) ∙ ap (λ x. effect_words es ++ (x ∷ [])) (sym is)
@@ -86,10 +86,10 @@ module _ (h : RuleHead) (acts : List Act) (m : Masks) (es : List Effect) (w : �
       let one : good_act h.switches (act_of m es') ≡ true =
       and_from (fits h.switches m.first m.second (length es')) (all (good_effect h.switches) es' && eqb (total es') 8)
       (ap (fits h.switches m.first m.second) full ∙ sound.2)
-      (and_from (all (good_effect h.switches) es') (eqb (total es') 8) all-good (eq-eqb (total es') 8 eight)) in
+      (and_from (all (good_effect h.switches) es') (eqb (total es') 8) all_good (eq-eqb (total es') 8 eight)) in
       let begun : Begun h acts' = (sound.0.0, all_push (good_act h.switches) acts (act_of m es') sound.0.1 one) in
       let few : length acts' ≤ h.actions = omega (arith, length_push acts (act_of m es'), sound.1) in
-      let told = listed-sound h acts' (ltb (length acts') h.actions) refl begun few in
+      let told = listed_sound h acts' (ltb (length acts') h.actions) refl begun few in
       subst (λ (x : Draft). Steps (inside h acts m es) w x) (sym at) (
         told.0,
         told.1
@@ -102,9 +102,9 @@ module _ (h : RuleHead) (acts : List Act) (m : Masks) (es : List Effect) (w : �
       elim (cases_Bool (ltb (length es') m.count)) [
         | inl b ↦
             carry (inside h acts m es) w (inside h acts m es') t (sym (cond-true (ltb (length es') m.count) _ _ b) ∙ e')
-            ((sound.0, sound.1, sound.2, all-good, ltb-true (length es') m.count b), written_then)
+            ((sound.0, sound.1, sound.2, all_good, ltb-true (length es') m.count b), written_then)
         | inr b ↦
-            let passed = check-more (eqb (total es') 8) WrongTotal (more (listed h (acts ++ (act_of m es' ∷ [])))) t (sym (cond-false (ltb (length es') m.count) (more (inside h acts m es')) _ b) ∙ e') in
+            let passed = check_more (eqb (total es') 8) WrongTotal (more (listed h (acts ++ (act_of m es' ∷ [])))) t (sym (cond-false (ltb (length es') m.count) (more (inside h acts m es')) _ b) ∙ e') in
             let full : length es' ≡ m.count = omega (arith, ltb-false (length es') m.count b, length_push es (effect_of e), sound.4) in
             last_effect t full (eqb-true (total es') 8 passed.0) (cc passed.1)
       ]
@@ -113,39 +113,39 @@ steps : (s t : Draft) (w : ℕ) → Sound s → read_word s w ≡ more t → Ste
 unfolding read_word
 steps blank t w sound e =
     let (h, (is, at)) = going_more (head_of w) (λ h. more (listing h [])) t e in
-    let told = head-only w h is in
-    carry blank w (listing h []) t at (((told.0, refl), (head-parts h.switches h.actions h.start told.0).2), ap (λ x. x ∷ []) (sym told.1))
+    let told = head_only w h is in
+    carry blank w (listing h []) t at (((told.0, refl), (head_parts h.switches h.actions h.start told.0).2), ap (λ x. x ∷ []) (sym told.1))
 steps (listing h acts) t w sound e =
     let (m, (is, at)) = going_more (masks_of 7 h.switches w) (λ m. more (inside h acts m [])) t e in
-    let told = masks-only 7 h.switches w m is in
+    let told = masks_only 7 h.switches w m is in
     carry (listing h acts) w (inside h acts m []) t at (
-      (sound.0, sound.1, told.0, refl, (count-parts h.switches m.first m.second m.count told.0).0),
+      (sound.0, sound.1, told.0, refl, (count_parts h.switches m.first m.second m.count told.0).0),
       ap (λ x. word_of_head h.switches h.actions h.start ∷ (act_words acts ++ (x ∷ []))) (sym told.1),
     )
 steps (inside h acts m es) t w sound e =
     let (x, (is, at)) = going_more (masks_of 8 h.switches w) (λ e. filled h acts m (es ++ (effect_of e ∷ []))) t e in
-    let told = masks-only 8 h.switches w x is in
+    let told = masks_only 8 h.switches w x is in
     effect_steps h acts m es w x sound told.0 told.1 t at
 steps (whole h acts) t w sound e =
-    let passed = check-more (eqb (kind w) 15) WrongKind ends t e in
+    let passed = check_more (eqb (kind w) 15) WrongKind ends t e in
     absurd (more_is_not_end (sym passed.1))
 
 -- every draft that reading comes to is sound
-pub sound-steps : (s t : Draft) (w : ℕ) → Sound s → read_word s w ≡ more t → Sound t
-sound-steps s t w sound e = (steps s t w sound e).0
+pub sound_steps : (s t : Draft) (w : ℕ) → Sound s → read_word s w ≡ more t → Sound t
+sound_steps s t w sound e = (steps s t w sound e).0
 
 ends_well : (s : Draft) (w : ℕ) → Sound s → read_word s w ≡ ends → kind w ≡ 15
 unfolding read_word
-ends_well blank w sound e = let (h, at) = going-ends (head_of w) (λ h. more (listing h [])) e in absurd (more_is_not_end at)
-ends_well (listing h acts) w sound e = let (m, at) = going-ends (masks_of 7 h.switches w) (λ m. more (inside h acts m [])) e in absurd (more_is_not_end at)
+ends_well blank w sound e = let (h, at) = going_ends (head_of w) (λ h. more (listing h [])) e in absurd (more_is_not_end at)
+ends_well (listing h acts) w sound e = let (m, at) = going_ends (masks_of 7 h.switches w) (λ m. more (inside h acts m [])) e in absurd (more_is_not_end at)
 ends_well (inside h acts m es) w sound e =
-    let (x, at) = going-ends (masks_of 8 h.switches w) (λ e. filled h acts m (es ++ (effect_of e ∷ []))) e in
+    let (x, at) = going_ends (masks_of 8 h.switches w) (λ e. filled h acts m (es ++ (effect_of e ∷ []))) e in
     let es' = es ++ (effect_of x ∷ []) in
     elim (cases_Bool (ltb (length es') m.count)) [
       | inl b ↦ absurd (more_is_not_end (sym (cond-true (ltb (length es') m.count) (more (inside h acts m es')) _ b) ∙ at))
-      | inr b ↦ absurd (more_is_not_end (check-ends (eqb (total es') 8) WrongTotal (more (listed h (acts ++ (act_of m es' ∷ [])))) (sym (cond-false (ltb (length es') m.count) (more (inside h acts m es')) _ b) ∙ at)).1)
+      | inr b ↦ absurd (more_is_not_end (check_ends (eqb (total es') 8) WrongTotal (more (listed h (acts ++ (act_of m es' ∷ [])))) (sym (cond-false (ltb (length es') m.count) (more (inside h acts m es')) _ b) ∙ at)).1)
     ]
-ends_well (whole h acts) w sound e = eqb-true (kind w) 15 (check-ends (eqb (kind w) 15) WrongKind ends e).0
+ends_well (whole h acts) w sound e = eqb-true (kind w) 15 (check_ends (eqb (kind w) 15) WrongKind ends e).0
 
 no_book : {b : Rule} {r : Refusal} → ◌≡◌ {A = Result Rule Refusal} (Err r) (Ok b) → ⊥
 no_book e = let z : ◌≡◌ {A = ℕ} 0 1 = cc in omega arith
@@ -165,8 +165,8 @@ finishes (whole h acts) b sound e =
     )
 
 -- a sound draft that ends well is a valid book
-pub sound-valid : (s : Draft) (b : Rule) → Sound s → whole_rule s ≡ Ok b → valid b ≡ true
-sound-valid s b sound e = (finishes s b sound e).0
+pub sound_valid : (s : Draft) (b : Rule) → Sound s → whole_rule s ≡ Ok b → valid b ≡ true
+sound_valid s b sound e = (finishes s b sound e).0
 
 -- the way of a valid book through the format
 
@@ -180,7 +180,7 @@ module _ (h : RuleHead) (few : h.switches ≤ 10) where
   module _ (acts : List Act) (m : Masks) where
     effect_read : (done : List Effect) (e : Effect) → good_effect h.switches e ≡ true → read_word (inside h acts m done) (effect_word e) ≡ filled h acts m (done ++ (e ∷ []))
     unfolding read_word
-    effect_read done e good = ap (λ x. going x (λ e. filled h acts m (done ++ (effect_of e ∷ [])))) (masks-back 8 h.switches e.set e.clear e.weight (lit< tt) few good)
+    effect_read done e good = ap (λ x. going x (λ e. filled h acts m (done ++ (effect_of e ∷ [])))) (masks_back 8 h.switches e.set e.clear e.weight (lit< tt) few good)
 
     effects_pass : (done : List Effect) (e : Effect) (rest : List Effect) → all (good_effect h.switches) (e ∷ rest) ≡ true → length (done ++ (e ∷ rest)) ≡ m.count → total (done ++ (e ∷ rest)) ≡ 8 → Passes rule_format (inside h acts m done) (effect_words (e ∷ rest)) (listed h (acts ++ (act_of m (done ++ (e ∷ rest)) ∷ [])))
     effects_pass done e [] good full eight =
@@ -190,8 +190,8 @@ module _ (h : RuleHead) (few : h.switches ≤ 10) where
           (
             effect_read done e one.0
                 ∙ cond-false (ltb (length es') m.count) (more (inside h acts m es')) _ (le-ltb (length es') m.count (omega (arith, full)))
-                ∙ check-passed (eqb (total es') 8) WrongTotal (more (listed h (acts ++ (act_of m es' ∷ [])))) (eq-eqb (total es') 8 eight),
-            (masks-low 8 h.switches e.set e.clear e.weight (lit< tt) few one.0, refl),
+                ∙ check_passed (eqb (total es') 8) WrongTotal (more (listed h (acts ++ (act_of m es' ∷ [])))) (eq-eqb (total es') 8 eight),
+            (masks_low 8 h.switches e.set e.clear e.weight (lit< tt) few one.0, refl),
           ),
         )
     effects_pass done e (f ∷ rest) good full eight =
@@ -204,7 +204,7 @@ module _ (h : RuleHead) (few : h.switches ≤ 10) where
           (
             effect_read done e one.0 ∙ cond-true (ltb (length es') m.count) (more (inside h acts m es')) _ (lt-ltb (length es') m.count less),
             (
-              masks-low 8 h.switches e.set e.clear e.weight (lit< tt) few one.0,
+              masks_low 8 h.switches e.set e.clear e.weight (lit< tt) few one.0,
               subst (λ (l : List Effect). Passes rule_format (inside h acts m es') (effect_words (f ∷ rest)) (listed h (acts ++ (act_of m l ∷ [])))) same later,
             ),
           ),
@@ -225,9 +225,9 @@ module _ (h : RuleHead) (few : h.switches ≤ 10) where
       let parts = act_parts h.switches a good in (
         inside h acts (headed a) [],
         (
-          ap (λ x. going x (λ m. more (inside h acts m []))) (masks-back 7 h.switches a.on a.off (length a.effects) (lit< tt) few parts.0),
+          ap (λ x. going x (λ m. more (inside h acts m []))) (masks_back 7 h.switches a.on a.off (length a.effects) (lit< tt) few parts.0),
           (
-            masks-low 7 h.switches a.on a.off (length a.effects) (lit< tt) few parts.0,
+            masks_low 7 h.switches a.on a.off (length a.effects) (lit< tt) few parts.0,
             all_effects_pass acts a.on a.off a.effects good,
           ),
         ),
@@ -264,34 +264,34 @@ act_words_length switches [] good = omega arith
 act_words_length switches (a ∷ acts) good =
     let one = and_parts (good_act switches a) (all (good_act switches) acts) good in
     let parts = act_parts switches a one.0 in
-    omega (arith, act_words_length switches acts one.1, count-parts switches a.on a.off (length a.effects) parts.0, length-append (effect_words a.effects) (act_words acts), effect_words_length a.effects)
+    omega (arith, act_words_length switches acts one.1, count_parts switches a.on a.off (length a.effects) parts.0, length-append (effect_words a.effects) (act_words acts), effect_words_length a.effects)
 
-reads-back : ReadsBack rule_format (λ b. valid b ≡ true) rule_words
+reads_back : ReadsBack rule_format (λ b. valid b ≡ true) rule_words
 unfolding read_word whole_rule
-reads-back b good =
+reads_back b good =
     let one = and_parts (good_head b.switches (length b.acts) b.start) (all (good_act b.switches) b.acts && waits b.acts) good in
     let two = and_parts (all (good_act b.switches) b.acts) (waits b.acts) one.1 in
-    let parts = head-parts b.switches (length b.acts) b.start one.0 in
+    let parts = head_parts b.switches (length b.acts) b.start one.0 in
     let h : RuleHead = record { switches = b.switches; actions = length b.acts; start = b.start } in
     let short : length (rule_words b) < 2 ^ 28 = omega (arith, parts.3, act_words_length b.switches b.acts two.0) in
-    reads-file rule_format (rule_words b) (whole h b.acts) b (
+    reads_file rule_format (rule_words b) (whole h b.acts) b (
       listing h [],
       (
-        ap (λ x. going x (λ h. more (listing h []))) (head-back b.switches (length b.acts) b.start one.0),
+        ap (λ x. going x (λ h. more (listing h []))) (head_back b.switches (length b.acts) b.start one.0),
         (
-          head-low b.switches (length b.acts) b.start one.0,
+          head_low b.switches (length b.acts) b.start one.0,
           all_acts_pass h parts.1 b.acts two.0 two.1 refl,
         ),
       ),
     )
     short
-    (check-passed (eqb (kind (end_word (length (rule_words b)))) 15) WrongKind ends (eq-eqb (kind (end_word (length (rule_words b)))) 15 (kind-put (length (rule_words b)) 15 short)))
-    (test-passed (waits b.acts) NoWait (Ok (rule_of h b.acts)) two.1)
+    (check_passed (eqb (kind (end_word (length (rule_words b)))) 15) WrongKind ends (eq-eqb (kind (end_word (length (rule_words b)))) 15 (kind_put (length (rule_words b)) 15 short)))
+    (test_passed (waits b.acts) NoWait (Ok (rule_of h b.acts)) two.1)
 
 -- the three laws of the format
-pub rule-faithful : Faithful rule_format (λ b. valid b ≡ true) rule_words
-rule-faithful = record {
-  places = places-right rule_format;
-  back = reads-back;
+pub rule_faithful : Faithful rule_format (λ b. valid b ≡ true) rule_words
+rule_faithful = record {
+  places = places_right rule_format;
+  back = reads_back;
   only = only_encodings rule_format (λ b. valid b ≡ true) rule_words Sound written (λ s t w low. steps s t w) (λ s w low. ends_well s w) finishes tt refl;
 }

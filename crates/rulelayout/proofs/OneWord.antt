@@ -1,4 +1,4 @@
--- What is read of one word is just what was written there: `head-only`, `head-back`, `masks-only`, `masks-back`.
+-- What is read of one word is just what was written there: `head_only`, `head_back`, `masks_only`, `masks_back`.
 use Rattle.std.proofs.Common.{◌≡◌, ℕ, ◌+◌, ◌*◌, ◌/◌, ◌%◌, ◌^◌, ◌<◌, ◌≤◌, Bool, true, false, cond, ◌&&◌, eqb, ltb, Ok, Err, Result, sym, refl, ap, ◌∙◌, subst, arith, lit<, pow_mono}
 use lib.Bits.{bit_and}
 use Rattle.std.proofs.lemmas.Bool.{and_parts, and_from, eqb-true, eq-eqb, ltb-true}
@@ -6,8 +6,8 @@ use Rattle.refusal.specs.declared.Refusal.{Refusal}
 use Rattle.refusal.specs.declared.Refusal.TheVariants.{WrongKind, UnusedBit, OutOfRange, SwitchTwice}
 use Rattle.words.specs.Words.{field, kind}
 use Rattle.words.specs.Tests.{within}
-use Rattle.words.proofs.Tests.{within-parts}
-use Rattle.words.proofs.Fields.{field_and_above, field_put, kind-put}
+use Rattle.words.proofs.Tests.{within_parts}
+use Rattle.words.proofs.Fields.{field_and_above, field_put, kind_put}
 use Rattle.rulelayout.specs.declared.RuleHead.{RuleHead}
 use Rattle.rulelayout.specs.declared.Masks.{Masks}
 use Rattle.rulelayout.specs.Rule.{in_range, fits, good_head}
@@ -17,9 +17,9 @@ pub test_ok : {X : Type 0} (b : Bool) (r : Refusal) (next : Result X Refusal) (x
 test_ok true r next x e = (refl, e)
 test_ok false r next x e = let z : ◌≡◌ {A = ℕ} 0 1 = cc in absurd (omega arith)
 
-pub test-passed : {X : Type 0} (b : Bool) (r : Refusal) (next : Result X Refusal) → b ≡ true → test b r next ≡ next
-test-passed true r next e = refl
-test-passed false r next e = let z : ◌≡◌ {A = ℕ} 0 1 = cc in absurd (omega arith)
+pub test_passed : {X : Type 0} (b : Bool) (r : Refusal) (next : Result X Refusal) → b ≡ true → test b r next ≡ next
+test_passed true r next e = refl
+test_passed false r next e = let z : ◌≡◌ {A = ℕ} 0 1 = cc in absurd (omega arith)
 
 put : (w below v above low width : ℕ) → w ≡ below + 2 ^ low * (v + 2 ^ width * above) → below < 2 ^ low → v < 2 ^ width → field w low width ≡ v
 put w below v above low width e h k = ap (λ x. field x low width) e ∙ field_put below v above low width h k
@@ -31,8 +31,8 @@ below_pow x switches h few =
 
 -- the head
 
-pub head-only : (w : ℕ) (h : RuleHead) → head_of w ≡ Ok h → (good_head h.switches h.actions h.start ≡ true) × (w ≡ word_of_head h.switches h.actions h.start)
-head-only w h e =
+pub head_only : (w : ℕ) (h : RuleHead) → head_of w ≡ Ok h → (good_head h.switches h.actions h.start ≡ true) × (w ≡ word_of_head h.switches h.actions h.start)
+head_only w h e =
     let x = field w 0 4 in
     let y = field w 4 4 in
     let z = field w 8 10 in
@@ -47,51 +47,51 @@ head-only w h e =
     let sum : w ≡ word_of_head x y z = omega (arith, key, unused, field_and_above w 0 4, field_and_above w 4 4, field_and_above w 8 10, field_and_above w 18 10) in
     subst (λ (h : RuleHead). (good_head h.switches h.actions h.start ≡ true) × (w ≡ word_of_head h.switches h.actions h.start)) is (good.0, sum)
 
-pub head-parts : (switches actions start : ℕ) → good_head switches actions start ≡ true → (1 ≤ switches) × (switches ≤ 10) × (1 ≤ actions) × (actions ≤ 8) × (start < 2 ^ 10)
-head-parts switches actions start h =
+pub head_parts : (switches actions start : ℕ) → good_head switches actions start ≡ true → (1 ≤ switches) × (switches ≤ 10) × (1 ≤ actions) × (actions ≤ 8) × (start < 2 ^ 10)
+head_parts switches actions start h =
     let one = and_parts _ _ h in
     let two = and_parts _ _ one.1 in
-    let a = within-parts 1 10 switches one.0 in
-    let b = within-parts 1 8 actions two.0 in
+    let a = within_parts 1 10 switches one.0 in
+    let b = within_parts 1 8 actions two.0 in
     (a.0, a.1, b.0, b.1, below_pow start switches two.1 a.1)
 
-pub head-low : (switches actions start : ℕ) → good_head switches actions start ≡ true → word_of_head switches actions start < 2 ^ 32
-head-low switches actions start h = omega (arith, head-parts switches actions start h)
+pub head_low : (switches actions start : ℕ) → good_head switches actions start ≡ true → word_of_head switches actions start < 2 ^ 32
+head_low switches actions start h = omega (arith, head_parts switches actions start h)
 
-pub head-back : (switches actions start : ℕ) → good_head switches actions start ≡ true → head_of (word_of_head switches actions start) ≡ Ok (record { switches = switches; actions = actions; start = start })
-head-back s a t h =
-    let parts = head-parts s a t h in
+pub head_back : (switches actions start : ℕ) → good_head switches actions start ≡ true → head_of (word_of_head switches actions start) ≡ Ok (record { switches = switches; actions = actions; start = start })
+head_back s a t h =
+    let parts = head_parts s a t h in
     let ls : s < 16 = omega (arith, parts) in
     let la : a < 16 = omega (arith, parts) in
     let lt : t < 2 ^ 10 = parts.4 in
     let w = word_of_head s a t in
-    let k : kind w ≡ 6 = kind-put (s + a * 2 ^ 4 + t * 2 ^ 8) 6 (omega arith) in
+    let k : kind w ≡ 6 = kind_put (s + a * 2 ^ 4 + t * 2 ^ 8) 6 (omega arith) in
     let f0 : field w 0 4 ≡ s = put w 0 s (a + 2 ^ 4 * (t + 2 ^ 10 * (6 * 2 ^ 10))) 0 4 (omega arith) (lit< tt) ls in
     let f1 : field w 4 4 ≡ a = put w s a (t + 2 ^ 10 * (6 * 2 ^ 10)) 4 4 (omega arith) ls la in
     let f2 : field w 8 10 ≡ t = put w (s + a * 2 ^ 4) t (6 * 2 ^ 10) 8 10 (omega arith) (omega arith) lt in
     let f3 : field w 18 10 ≡ 0 = put w (s + a * 2 ^ 4 + t * 2 ^ 8) 0 6 18 10 (omega arith) (omega arith) (lit< tt) in
     let same : good_head (field w 0 4) (field w 4 4) (field w 8 10) ≡ good_head s a t = cc in
-    test-passed _ _ _ (eq-eqb _ _ k) ∙ test-passed _ _ _ (eq-eqb _ _ f3) ∙ test-passed _ _ _ (same ∙ h) ∙ cc
+    test_passed _ _ _ (eq-eqb _ _ k) ∙ test_passed _ _ _ (eq-eqb _ _ f3) ∙ test_passed _ _ _ (same ∙ h) ∙ cc
 
 -- an action or an outcome
 
-pub range-parts : (switches x y n : ℕ) → in_range switches x y n ≡ true → (ltb x (2 ^ switches) ≡ true) × (ltb y (2 ^ switches) ≡ true) × (1 ≤ n) × (n ≤ 8)
-range-parts switches x y n h =
+pub range_parts : (switches x y n : ℕ) → in_range switches x y n ≡ true → (ltb x (2 ^ switches) ≡ true) × (ltb y (2 ^ switches) ≡ true) × (1 ≤ n) × (n ≤ 8)
+range_parts switches x y n h =
     let one = and_parts (ltb x (2 ^ switches)) (ltb y (2 ^ switches) && within 1 8 n) h in
     let two = and_parts (ltb y (2 ^ switches)) (within 1 8 n) one.1 in
-    let count = within-parts 1 8 n two.1 in
+    let count = within_parts 1 8 n two.1 in
     (one.0, two.0, count.0, count.1)
 
-pub fits-parts : (switches x y n : ℕ) → fits switches x y n ≡ true → (in_range switches x y n ≡ true) × (eqb (bit_and x y) 0 ≡ true)
-fits-parts switches x y n h = and_parts (in_range switches x y n) (eqb (bit_and x y) 0) h
+pub fits_parts : (switches x y n : ℕ) → fits switches x y n ≡ true → (in_range switches x y n ≡ true) × (eqb (bit_and x y) 0 ≡ true)
+fits_parts switches x y n h = and_parts (in_range switches x y n) (eqb (bit_and x y) 0) h
 
-pub count-parts : (switches x y n : ℕ) → fits switches x y n ≡ true → (1 ≤ n) × (n ≤ 8)
-count-parts switches x y n h =
-    let parts = range-parts switches x y n (fits-parts switches x y n h).0 in
+pub count_parts : (switches x y n : ℕ) → fits switches x y n ≡ true → (1 ≤ n) × (n ≤ 8)
+count_parts switches x y n h =
+    let parts = range_parts switches x y n (fits_parts switches x y n h).0 in
     (parts.2, parts.3)
 
-pub masks-only : (k switches w : ℕ) (m : Masks) → masks_of k switches w ≡ Ok m → (fits switches m.first m.second m.count ≡ true) × (w ≡ masks_word k m.first m.second m.count)
-masks-only k switches w m e =
+pub masks_only : (k switches w : ℕ) (m : Masks) → masks_of k switches w ≡ Ok m → (fits switches m.first m.second m.count ≡ true) × (w ≡ masks_word k m.first m.second m.count)
+masks_only k switches w m e =
     let x = field w 0 10 in
     let y = field w 10 10 in
     let n = field w 20 4 in
@@ -109,26 +109,26 @@ masks-only k switches w m e =
     subst (λ (m : Masks). (fits switches m.first m.second m.count ≡ true) × (w ≡ masks_word k m.first m.second m.count)) is (and_from (in_range switches x y n) (eqb (bit_and x y) 0) good.0 once.0, sum)
 
 module _ (k switches x y n : ℕ) (known : k < 16) (few : switches ≤ 10) (h : fits switches x y n ≡ true) where
-  masks-parts : (x < 2 ^ 10) × (y < 2 ^ 10) × (n < 16)
-  masks-parts =
-      let parts = range-parts switches x y n (fits-parts switches x y n h).0 in
+  masks_parts : (x < 2 ^ 10) × (y < 2 ^ 10) × (n < 16)
+  masks_parts =
+      let parts = range_parts switches x y n (fits_parts switches x y n h).0 in
       (below_pow x switches parts.0 few, below_pow y switches parts.1 few, omega (arith, parts))
 
-  pub masks-low : masks_word k x y n < 2 ^ 32
-  masks-low = omega (arith, masks-parts, known)
+  pub masks_low : masks_word k x y n < 2 ^ 32
+  masks_low = omega (arith, masks_parts, known)
 
-  pub masks-back : masks_of k switches (masks_word k x y n) ≡ Ok (record { first = x; second = y; count = n })
-  masks-back =
-      let lx : x < 2 ^ 10 = masks-parts.0 in
-      let ly : y < 2 ^ 10 = masks-parts.1 in
-      let ln : n < 16 = masks-parts.2 in
+  pub masks_back : masks_of k switches (masks_word k x y n) ≡ Ok (record { first = x; second = y; count = n })
+  masks_back =
+      let lx : x < 2 ^ 10 = masks_parts.0 in
+      let ly : y < 2 ^ 10 = masks_parts.1 in
+      let ln : n < 16 = masks_parts.2 in
       let w = masks_word k x y n in
-      let key : kind w ≡ k = kind-put (x + y * 2 ^ 10 + n * 2 ^ 20) k (omega arith) in
+      let key : kind w ≡ k = kind_put (x + y * 2 ^ 10 + n * 2 ^ 20) k (omega arith) in
       let f0 : field w 0 10 ≡ x = put w 0 x (y + 2 ^ 10 * (n + 2 ^ 4 * (k * 2 ^ 4))) 0 10 (omega arith) (lit< tt) lx in
       let f1 : field w 10 10 ≡ y = put w x y (n + 2 ^ 4 * (k * 2 ^ 4)) 10 10 (omega arith) lx ly in
       let f2 : field w 20 4 ≡ n = put w (x + y * 2 ^ 10) n (k * 2 ^ 4) 20 4 (omega arith) (omega arith) ln in
       let f3 : field w 24 4 ≡ 0 = put w (x + y * 2 ^ 10 + n * 2 ^ 20) 0 k 24 4 (omega arith) (omega arith) (lit< tt) in
-      let range = fits-parts switches x y n h in
+      let range = fits_parts switches x y n h in
       let same : in_range switches (field w 0 10) (field w 10 10) (field w 20 4) ≡ in_range switches x y n = cc in
       let once : eqb (bit_and (field w 0 10) (field w 10 10)) 0 ≡ eqb (bit_and x y) 0 = cc in
-      test-passed _ _ _ (eq-eqb _ _ key) ∙ test-passed _ _ _ (eq-eqb _ _ f3) ∙ test-passed _ _ _ (same ∙ range.0) ∙ test-passed _ _ _ (once ∙ range.1) ∙ cc
+      test_passed _ _ _ (eq-eqb _ _ key) ∙ test_passed _ _ _ (eq-eqb _ _ f3) ∙ test_passed _ _ _ (same ∙ range.0) ∙ test_passed _ _ _ (once ∙ range.1) ∙ cc

@@ -5,7 +5,7 @@ use Rattle.std.proofs.lemmas.Bool.{and_parts, and_from, cases_Bool, cond_both, c
 use Rattle.model.specs.declared.Outcome.{Outcome}
 use Rattle.model.specs.Models.{total as weights}
 use Rattle.register.specs.Keys.{Decides, Kept, place_of, enter, enter_all}
-use Rattle.register.proofs.Order.{enter_all-kept}
+use Rattle.register.proofs.Order.{enter_all_kept}
 use Rattle.words.specs.Tests.{all}
 use Rattle.rulelayout.specs.declared.Effect.{Effect}
 use Rattle.rulelayout.specs.Rule.{total}
@@ -24,28 +24,28 @@ ltb_suc p n =
       | inr h ↦ le-ltb p n h ∙ sym (le-ltb (suc p) (suc n) (omega arith))
     ]
 
-targets-step : (b : Bool) (o : Outcome) (os : List Outcome) (t w : ℕ) → targets_of (added os t w) ≡ enter eqb t (targets_of os) → targets_of (cond b (heavier o w ∷ os) (o ∷ added os t w)) ≡ cond (ltb (cond b 0 (suc (place_of eqb t (targets_of os)))) (suc (length (targets_of os)))) (o.target ∷ targets_of os) (o.target ∷ (targets_of os ++ (t ∷ [])))
-targets-step true o os t w ih = cond_below 0 (suc (length (targets_of os))) (o.target ∷ targets_of os) (o.target ∷ (targets_of os ++ (t ∷ []))) (omega arith)
-targets-step false o os t w ih =
+targets_step : (b : Bool) (o : Outcome) (os : List Outcome) (t w : ℕ) → targets_of (added os t w) ≡ enter eqb t (targets_of os) → targets_of (cond b (heavier o w ∷ os) (o ∷ added os t w)) ≡ cond (ltb (cond b 0 (suc (place_of eqb t (targets_of os)))) (suc (length (targets_of os)))) (o.target ∷ targets_of os) (o.target ∷ (targets_of os ++ (t ∷ [])))
+targets_step true o os t w ih = cond_below 0 (suc (length (targets_of os))) (o.target ∷ targets_of os) (o.target ∷ (targets_of os ++ (t ∷ []))) (omega arith)
+targets_step false o os t w ih =
     ap (λ (ks : List ℕ). o.target ∷ ks) ih
     ∙ cons_cond (ltb (place_of eqb t (targets_of os)) (length (targets_of os))) o.target (targets_of os) (targets_of os ++ (t ∷ []))
     ∙ ap (λ (c : Bool). cond c (o.target ∷ targets_of os) (o.target ∷ (targets_of os ++ (t ∷ [])))) (ltb_suc (place_of eqb t (targets_of os)) (length (targets_of os)))
 
-pub targets-added : (os : List Outcome) (t w : ℕ) → targets_of (added os t w) ≡ enter eqb t (targets_of os)
-targets-added [] t w = refl
-targets-added (o ∷ os) t w = targets-step (eqb t o.target) o os t w (targets-added os t w)
+pub targets_added : (os : List Outcome) (t w : ℕ) → targets_of (added os t w) ≡ enter eqb t (targets_of os)
+targets_added [] t w = refl
+targets_added (o ∷ os) t w = targets_step (eqb t o.target) o os t w (targets_added os t w)
 
-targets-onto : (s : ℕ) (os : List Outcome) (es : List Effect) → targets_of (landings_onto s os es) ≡ enter_all eqb (targets_of os) (map (landing s) es)
-targets-onto s os [] = refl
-targets-onto s os (e ∷ es) =
-    targets-onto s (added os (landing s e) e.weight) es
-    ∙ ap (λ (ks : List ℕ). enter_all eqb ks (map (landing s) es)) (targets-added os (landing s e) e.weight)
+targets_onto : (s : ℕ) (os : List Outcome) (es : List Effect) → targets_of (landings_onto s os es) ≡ enter_all eqb (targets_of os) (map (landing s) es)
+targets_onto s os [] = refl
+targets_onto s os (e ∷ es) =
+    targets_onto s (added os (landing s e) e.weight) es
+    ∙ ap (λ (ks : List ℕ). enter_all eqb ks (map (landing s) es)) (targets_added os (landing s e) e.weight)
 
 eqb_decides : Decides eqb
 eqb_decides = record { only = eqb-true; self = λ x. eq-eqb x x refl }
 
-pub targets-kept : (s : ℕ) (es : List Effect) → Kept (map (landing s) es) (targets_of (landings s es))
-targets-kept s es = subst (Kept (map (landing s) es)) (sym (targets-onto s [] es)) (enter_all-kept eqb eqb_decides (map (landing s) es))
+pub targets_kept : (s : ℕ) (es : List Effect) → Kept (map (landing s) es) (targets_of (landings s es))
+targets_kept s es = subst (Kept (map (landing s) es)) (sym (targets_onto s [] es)) (enter_all_kept eqb eqb_decides (map (landing s) es))
 
 -- weights
 
@@ -96,22 +96,22 @@ weight_onto s os (e ∷ es) t =
     omega (arith, weight_onto s (added os (landing s e) e.weight) es t, weight_added os (landing s e) e.weight t)
 
 pub gathered : (s : ℕ) (es : List Effect) → Gathered s es (landings s es)
-gathered s es = record { targets = targets-kept s es; weights = λ t. weight_onto s [] es t ∙ zero-add (landed s t es) }
+gathered s es = record { targets = targets_kept s es; weights = λ t. weight_onto s [] es t ∙ zero-add (landed s t es) }
 
 -- totals and lengths
 
-pub total-added : (os : List Outcome) (t w : ℕ) → weights (added os t w) ≡ weights os + w
-total-added [] t w = omega arith
-total-added (o ∷ os) t w =
+pub total_added : (os : List Outcome) (t w : ℕ) → weights (added os t w) ≡ weights os + w
+total_added [] t w = omega arith
+total_added (o ∷ os) t w =
     cond_both (eqb t o.target) (heavier o w ∷ os) (o ∷ added os t w)
     (λ (ws : List Outcome). weights ws ≡ weights (o ∷ os) + w)
     (λ e. omega arith)
-    (λ e. omega (arith, total-added os t w))
+    (λ e. omega (arith, total_added os t w))
 
-pub total-onto : (s : ℕ) (os : List Outcome) (es : List Effect) → weights (landings_onto s os es) ≡ weights os + total es
-total-onto s os [] = omega arith
-total-onto s os (e ∷ es) =
-    omega (arith, total-onto s (added os (landing s e) e.weight) es, total-added os (landing s e) e.weight)
+pub total_onto : (s : ℕ) (os : List Outcome) (es : List Effect) → weights (landings_onto s os es) ≡ weights os + total es
+total_onto s os [] = omega arith
+total_onto s os (e ∷ es) =
+    omega (arith, total_onto s (added os (landing s e) e.weight) es, total_added os (landing s e) e.weight)
 
 pub length-added : (os : List Outcome) (t w : ℕ) → (1 ≤ length (added os t w)) × (length os ≤ length (added os t w)) × (length (added os t w) ≤ length os + 1)
 length-added [] t w = (omega arith, omega arith, omega arith)
@@ -128,30 +128,30 @@ length-onto s os (e ∷ es) =
     let k = length-onto s (added os (landing s e) e.weight) es in
     (omega (arith, h.1, k.0), omega (arith, h.2, k.1))
 
-pub some-landings : (s : ℕ) (es : List Effect) → 1 ≤ length es → 1 ≤ length (landings s es)
-some-landings s [] h = absurd (omega arith)
-some-landings s (e ∷ es) h = (length-onto s (added [] (landing s e) e.weight) es).0
+pub some_landings : (s : ℕ) (es : List Effect) → 1 ≤ length es → 1 ≤ length (landings s es)
+some_landings s [] h = absurd (omega arith)
+some_landings s (e ∷ es) h = (length-onto s (added [] (landing s e) e.weight) es).0
 
 -- a test that holds of what lands, and goes on holding where a weight is added, holds of every outcome
 
 module _ (P : Outcome → Bool) (grows : (t v w : ℕ) → P (record { target = t; weight = v }) ≡ true → P (record { target = t; weight = v + w }) ≡ true) where
-  all-added : (os : List Outcome) (t w : ℕ) → all P os ≡ true → P (record { target = t; weight = w }) ≡ true → all P (added os t w) ≡ true
-  all-added [] t w a h = and_from _ true h refl
-  all-added (o ∷ os) t w a h =
+  all_added : (os : List Outcome) (t w : ℕ) → all P os ≡ true → P (record { target = t; weight = w }) ≡ true → all P (added os t w) ≡ true
+  all_added [] t w a h = and_from _ true h refl
+  all_added (o ∷ os) t w a h =
       let parts = and_parts (P o) (all P os) a in
       cond_both (eqb t o.target) (heavier o w ∷ os) (o ∷ added os t w)
       (λ (ws : List Outcome). all P ws ≡ true)
       (λ e. and_from _ (all P os) (grows o.target o.weight w parts.0) parts.1)
-      (λ e. and_from (P o) _ parts.0 (all-added os t w parts.1 h))
+      (λ e. and_from (P o) _ parts.0 (all_added os t w parts.1 h))
 
-  all-onto : (s : ℕ) (os : List Outcome) (es : List Effect) → all P os ≡ true → all (λ e. P (record { target = landing s e; weight = e.weight })) es ≡ true → all P (landings_onto s os es) ≡ true
-  all-onto s os [] a h = a
-  all-onto s os (e ∷ es) a h =
+  all_onto : (s : ℕ) (os : List Outcome) (es : List Effect) → all P os ≡ true → all (λ e. P (record { target = landing s e; weight = e.weight })) es ≡ true → all P (landings_onto s os es) ≡ true
+  all_onto s os [] a h = a
+  all_onto s os (e ∷ es) a h =
       let parts = and_parts (P (record { target = landing s e; weight = e.weight })) (all (λ f. P (record { target = landing s f; weight = f.weight })) es) h in
-      all-onto s (added os (landing s e) e.weight) es (all-added os (landing s e) e.weight a parts.0) parts.1
+      all_onto s (added os (landing s e) e.weight) es (all_added os (landing s e) e.weight a parts.0) parts.1
 
-pub all-landings : (P : Outcome → Bool) → ((t v w : ℕ) → P (record { target = t; weight = v }) ≡ true → P (record { target = t; weight = v + w }) ≡ true) → (s : ℕ) (es : List Effect) → all (λ e. P (record { target = landing s e; weight = e.weight })) es ≡ true → all P (landings s es) ≡ true
-all-landings P grows s es h = all-onto P grows s [] es refl h
+pub all_landings : (P : Outcome → Bool) → ((t v w : ℕ) → P (record { target = t; weight = v }) ≡ true → P (record { target = t; weight = v + w }) ≡ true) → (s : ℕ) (es : List Effect) → all (λ e. P (record { target = landing s e; weight = e.weight })) es ≡ true → all P (landings s es) ≡ true
+all_landings P grows s es h = all_onto P grows s [] es refl h
 
 -- a known target's outcome grows at its place, a new one comes last
 

@@ -7,27 +7,27 @@ use Rattle.std.proofs.lemmas.Bool.{and_parts, and_from, cases_order, cond_both, 
 use Rattle.model.specs.declared.Outcome.{Outcome}
 use Rattle.model.specs.Models.{Lawful, Ground, NumberedBy, total as weights}
 use Rattle.words.specs.Tests.{all, within}
-use Rattle.words.proofs.Tests.{all_at, within-parts}
+use Rattle.words.proofs.Tests.{all_at, within_parts}
 use Rattle.rulelayout.specs.declared.Effect.{Effect}
 use Rattle.rulelayout.specs.Rule.{Act, Rule, valid, total, in_range, fits, good_effect, good_act, good_head, waits}
 use Rattle.rulemodel.specs.Meaning.{landing, landings, met, no_act, act_at, is_layer_state, offers, rule_model}
-use Rattle.rulemodel.proofs.Gathering.{targets-kept, total-onto, length-onto, some-landings, all-landings}
+use Rattle.rulemodel.proofs.Gathering.{targets_kept, total_onto, length-onto, some_landings, all_landings}
 
 -- what a valid book's parts come to
 
-pub switches-few : (b : Rule) → valid b ≡ true → (1 ≤ b.switches) × (b.switches ≤ 10)
-switches-few b v =
+pub switches_few : (b : Rule) → valid b ≡ true → (1 ≤ b.switches) × (b.switches ≤ 10)
+switches_few b v =
     let head = (and_parts (good_head b.switches (length b.acts) b.start) _ v).0 in
-    within-parts 1 10 b.switches (and_parts (within 1 10 b.switches) _ head).0
+    within_parts 1 10 b.switches (and_parts (within 1 10 b.switches) _ head).0
 
-pub actions-few : (b : Rule) → valid b ≡ true → (1 ≤ length b.acts) × (length b.acts ≤ 8)
-actions-few b v =
+pub actions_few : (b : Rule) → valid b ≡ true → (1 ≤ length b.acts) × (length b.acts ≤ 8)
+actions_few b v =
     let head = (and_parts (good_head b.switches (length b.acts) b.start) _ v).0 in
     let rest = (and_parts (within 1 10 b.switches) _ head).1 in
-    within-parts 1 8 (length b.acts) (and_parts (within 1 8 (length b.acts)) _ rest).0
+    within_parts 1 8 (length b.acts) (and_parts (within 1 8 (length b.acts)) _ rest).0
 
-start-state : (b : Rule) → valid b ≡ true → is_layer_state b b.start ≡ true
-start-state b v =
+start_state : (b : Rule) → valid b ≡ true → is_layer_state b b.start ≡ true
+start_state b v =
     let head = (and_parts (good_head b.switches (length b.acts) b.start) _ v).0 in
     let rest = (and_parts (within 1 10 b.switches) _ head).1 in
     (and_parts (within 1 8 (length b.acts)) _ rest).1
@@ -50,18 +50,18 @@ pub record Good (n : ℕ) (es : List Effect) : Type 0 where
   pub each : all (good_effect n) es ≡ true
   pub whole : total es ≡ 8
 
-good-parts : (n : ℕ) (a : Act) → good_act n a ≡ true → Good n a.effects
-good-parts n a g =
+good_parts : (n : ℕ) (a : Act) → good_act n a ≡ true → Good n a.effects
+good_parts n a g =
     let needs = and_parts (fits n a.on a.off (length a.effects)) _ g in
     let range = (and_parts (in_range n a.on a.off (length a.effects)) _ needs.0).0 in
-    let count = within-parts 1 8 (length a.effects) (and_parts (ltb a.off (2 ^ n)) _ (and_parts (ltb a.on (2 ^ n)) _ range).1).1 in
+    let count = within_parts 1 8 (length a.effects) (and_parts (ltb a.off (2 ^ n)) _ (and_parts (ltb a.on (2 ^ n)) _ range).1).1 in
     let rest = and_parts (all (good_effect n) a.effects) (eqb (total a.effects) 8) needs.1 in
     record { some = count.0; few = count.1; each = rest.0; whole = eqb-true (total a.effects) 8 rest.1 }
 
 pub act_parts : (b : Rule) → valid b ≡ true → (s a : ℕ) → offers b s a ≡ true → Good b.switches (act_at b a).effects
 act_parts b v s a o =
     let here = (and_parts (ltb a (length b.acts)) _ (and_parts (is_layer_state b s) _ o).1).0 in
-    good-parts b.switches (act_at b a) (act_good b v a (ltb-true a (length b.acts) here))
+    good_parts b.switches (act_at b a) (act_good b v a (ltb-true a (length b.acts) here))
 
 -- an outcome lands in a state, with a weight of 1 at least
 
@@ -70,7 +70,7 @@ effect_parts n e g =
     let range = (and_parts (in_range n e.set e.clear e.weight) _ g).0 in
     let first = and_parts (ltb e.set (2 ^ n)) _ range in
     let second = and_parts (ltb e.clear (2 ^ n)) _ first.1 in
-    (ltb-true e.set (2 ^ n) first.0, ltb-true e.clear (2 ^ n) second.0, (within-parts 1 8 e.weight second.1).0)
+    (ltb-true e.set (2 ^ n) first.0, ltb-true e.clear (2 ^ n) second.0, (within_parts 1 8 e.weight second.1).0)
 
 lands_within : (n s : ℕ) (e : Effect) → s < 2 ^ n → good_effect n e ≡ true → landing s e < 2 ^ n
 lands_within n s e h g =
@@ -83,20 +83,20 @@ all_follow P Q f (e ∷ es) a =
     let parts = and_parts (P e) (all P es) a in
     and_from (Q e) (all Q es) (f e parts.0) (all_follow P Q f es parts.1)
 
-targets-within : (n s : ℕ) (es : List Effect) → s < 2 ^ n → all (good_effect n) es ≡ true → all (λ (o : Outcome). ltb o.target (2 ^ n)) (landings s es) ≡ true
-targets-within n s es h g =
-    all-landings (λ (o : Outcome). ltb o.target (2 ^ n)) (λ t v w e. e) s es
+targets_within : (n s : ℕ) (es : List Effect) → s < 2 ^ n → all (good_effect n) es ≡ true → all (λ (o : Outcome). ltb o.target (2 ^ n)) (landings s es) ≡ true
+targets_within n s es h g =
+    all_landings (λ (o : Outcome). ltb o.target (2 ^ n)) (λ t v w e. e) s es
     (all_follow (good_effect n) (λ e. ltb (landing s e) (2 ^ n)) (λ e k. lt-ltb (landing s e) (2 ^ n) (lands_within n s e h k)) es g)
 
-weights-some : (n s : ℕ) (es : List Effect) → all (good_effect n) es ≡ true → all (λ (o : Outcome). leb 1 o.weight) (landings s es) ≡ true
-weights-some n s es g =
-    all-landings (λ (o : Outcome). leb 1 o.weight) (λ t v w e. le-leb 1 (v + w) (omega (arith, leb-true 1 v e))) s es
+weights_some : (n s : ℕ) (es : List Effect) → all (good_effect n) es ≡ true → all (λ (o : Outcome). leb 1 o.weight) (landings s es) ≡ true
+weights_some n s es g =
+    all_landings (λ (o : Outcome). leb 1 o.weight) (λ t v w e. le-leb 1 (v + w) (omega (arith, leb-true 1 v e))) s es
     (all_follow (good_effect n) (λ e. leb 1 e.weight) (λ e k. le-leb 1 e.weight (effect_parts n e k).2) es g)
 
-targets-apart : (s : ℕ) (es : List Effect) (j k : ℕ) (d : Outcome) → j < length (landings s es) → k < length (landings s es) → (get_or (landings s es) j d).target ≡ (get_or (landings s es) k d).target → j ≡ k
-targets-apart s es j k d hj hk e =
+targets_apart : (s : ℕ) (es : List Effect) (j k : ℕ) (d : Outcome) → j < length (landings s es) → k < length (landings s es) → (get_or (landings s es) j d).target ≡ (get_or (landings s es) k d).target → j ≡ k
+targets_apart s es j k d hj hk e =
     let os = landings s es in
-    let apart = (targets-kept s es).once in
+    let apart = (targets_kept s es).once in
     let long = length-map os (λ (o : Outcome). o.target) in
     let at_j = get_or-map (λ (o : Outcome). o.target) os j d d.target hj in
     let at-k = get_or-map (λ (o : Outcome). o.target) os k d d.target hk in
@@ -113,35 +113,35 @@ module _ (b : Rule) (s a : ℕ) where
   outcomes_both : (P : List Outcome → Type 0) → (offers b s a ≡ true → P (landings s (act_at b a).effects)) → P [] → P ((rule_model b).outcomes s a)
   outcomes_both P there none = cond_both (offers b s a) (landings s (act_at b a).effects) [] P there (λ _. none)
 
-  offered-state : offers b s a ≡ true → s < 2 ^ b.switches
-  offered-state o = ltb-true s (2 ^ b.switches) (and_parts (is_layer_state b s) _ o).0
+  offered_state : offers b s a ≡ true → s < 2 ^ b.switches
+  offered_state o = ltb-true s (2 ^ b.switches) (and_parts (is_layer_state b s) _ o).0
 
 below_all : (b : Rule) (s : ℕ) → cond (is_layer_state b s) s 0 < 2 ^ b.switches
 below_all b s =
     cond_both (is_layer_state b s) s 0 (λ (n : ℕ). n < 2 ^ b.switches) (λ e. ltb-true s (2 ^ b.switches) e) (λ e. pow_pos b.switches)
 
-first-met : (s : ℕ) (a : Act) → a.on ≡ 0 → a.off ≡ 0 → met s a ≡ true
-first-met s a on off =
+first_met : (s : ℕ) (a : Act) → a.on ≡ 0 → a.off ≡ 0 → met s a ≡ true
+first_met s a on off =
     and_from (eqb (bit_and s a.on) a.on) (eqb (bit_and s a.off) 0)
     (eq-eqb (bit_and s a.on) a.on (omega (arith, and_le_r s a.on)))
     (eq-eqb (bit_and s a.off) 0 (omega (arith, and_le_r s a.off)))
 
-pub states-few : (b : Rule) → valid b ≡ true → 2 ^ b.switches ≤ 1024
-states-few b v = pow_mono {j = 10} (switches-few b v).1
+pub states_few : (b : Rule) → valid b ≡ true → 2 ^ b.switches ≤ 1024
+states_few b v = pow_mono {j = 10} (switches_few b v).1
 
 wait_offered : (b : Rule) → valid b ≡ true → (s : ℕ) → is_layer_state b s ≡ true → offers b s 0 ≡ true
 wait_offered b v s e =
     let rest = (and_parts (good_head b.switches (length b.acts) b.start) _ v).1 in
     let free = first_free b.acts (and_parts (all (good_act b.switches) b.acts) (waits b.acts) rest).1 in
     and_from (is_layer_state b s) _ e
-    (and_from (ltb 0 (length b.acts)) _ (lt-ltb 0 (length b.acts) (actions-few b v).0) (first-met s (act_at b 0) free.0 free.1))
+    (and_from (ltb 0 (length b.acts)) _ (lt-ltb 0 (length b.acts) (actions_few b v).0) (first_met s (act_at b 0) free.0 free.1))
 
 pub rule_lawful : (b : Rule) → valid b ≡ true → Lawful (rule_model b)
 rule_lawful b v = record {
-  starts = start-state b v;
+  starts = start_state b v;
   within = λ s e. ltb-true s (2 ^ b.switches) e;
-  wide = omega (arith, states-few b v);
-  acts = actions-few b v;
+  wide = omega (arith, states_few b v);
+  acts = actions_few b v;
   offers =
       λ s a o.
       let parts = and_parts (is_layer_state b s) _ o in
@@ -150,7 +150,7 @@ rule_lawful b v = record {
   some =
       λ s a o.
       subst (λ (os : List Outcome). 1 ≤ length os) (sym (cond-true (offers b s a) (landings s (act_at b a).effects) [] o))
-      (some-landings s (act_at b a).effects (act_parts b v s a o).some);
+      (some_landings s (act_at b a).effects (act_parts b v s a o).some);
   few =
       λ s a.
       outcomes_both b s a (λ (os : List Outcome). length os ≤ 8)
@@ -161,14 +161,14 @@ rule_lawful b v = record {
       outcomes_both b s a (λ (os : List Outcome). j < length os → is_layer_state b (get_or os j d).target ≡ true)
       (λ o h.
       all_at (λ (w : Outcome). ltb w.target (2 ^ b.switches)) (landings s (act_at b a).effects) j d
-      (targets-within b.switches s (act_at b a).effects (offered-state b s a o) (act_parts b v s a o).each)
+      (targets_within b.switches s (act_at b a).effects (offered_state b s a o) (act_parts b v s a o).each)
       h)
       (λ h. absurd (omega arith));
   apart =
       λ s a j k d.
       outcomes_both b s a
       (λ (os : List Outcome). j < length os → k < length os → (get_or os j d).target ≡ (get_or os k d).target → j ≡ k)
-      (λ o. targets-apart s (act_at b a).effects j k d)
+      (λ o. targets_apart s (act_at b a).effects j k d)
       (λ h. absurd (omega arith));
   weighed =
       λ s a j d.
@@ -176,28 +176,28 @@ rule_lawful b v = record {
       (λ o h.
       leb-true 1 _
       (all_at (λ (w : Outcome). leb 1 w.weight) (landings s (act_at b a).effects) j d
-      (weights-some b.switches s (act_at b a).effects (act_parts b v s a o).each)
+      (weights_some b.switches s (act_at b a).effects (act_parts b v s a o).each)
       h))
       (λ h. absurd (omega arith));
   whole =
       λ s a o.
       ap weights (cond-true (offers b s a) (landings s (act_at b a).effects) [] o)
-      ∙ total-onto s [] (act_at b a).effects
+      ∙ total_onto s [] (act_at b a).effects
       ∙ zero-add (total (act_at b a).effects)
       ∙ (act_parts b v s a o).whole;
   labelled = below_all b;
-  narrow = omega (arith, (switches-few b v).1);
+  narrow = omega (arith, (switches_few b v).1);
   bounded = λ s. omega arith;
   modest = omega arith;
-  grounded = λ s. omega (arith, below_all b s, states-few b v);
+  grounded = λ s. omega (arith, below_all b s, states_few b v);
   no_mask = λ s e. cond-false (is_layer_state b s) s 0 e;
   no_reward = λ s e. refl;
   no_ground = λ s e. cond-false (is_layer_state b s) s 0 e;
   silent = λ s a o. cond-false (offers b s a) (landings s (act_at b a).effects) [] o;
 }
 
-pub rule-ground : (b : Rule) → valid b ≡ true → Ground (rule_model b)
-rule-ground b v = record { own = λ s e. cond-true (is_layer_state b s) s 0 e; small = omega (arith, states-few b v) }
+pub rule_ground : (b : Rule) → valid b ≡ true → Ground (rule_model b)
+rule_ground b v = record { own = λ s e. cond-true (is_layer_state b s) s 0 e; small = omega (arith, states_few b v) }
 
-pub rule-numbered : (b : Rule) → valid b ≡ true → NumberedBy (rule_model b)
-rule-numbered b v = record { below = λ s. refl; small = omega (arith, states-few b v) }
+pub rule_numbered : (b : Rule) → valid b ≡ true → NumberedBy (rule_model b)
+rule_numbered b v = record { below = λ s. refl; small = omega (arith, states_few b v) }

@@ -64,21 +64,21 @@ on_both k a b =
     ∙ ap (bit_and (digit (is_on k a))) (digit_is (b / 2 ^ k)))
     ∙ both_digits (is_on k a) (is_on k b)
 
-on-nothing : (k : ℕ) → is_on k 0 ≡ false
-on-nothing k = ap (λ (n : ℕ). eqb (n % 2) 1) (zero-div (2 ^ k))
+on_nothing : (k : ℕ) → is_on k 0 ≡ false
+on_nothing k = ap (λ (n : ℕ). eqb (n % 2) 1) (zero-div (2 ^ k))
 
 -- masks with the same switches on are one
 on_half : (k a : ℕ) → is_on k (a / 2) ≡ is_on (1 + k) a
 on_half k a = ap (λ (n : ℕ). eqb (n % 2) 1) (shr-shr a 1 k)
 
-first-digit : (a : ℕ) → a % 2 ≡ digit (is_on 0 a)
-first-digit a = digit_is a ∙ ap (λ (n : ℕ). digit (eqb (n % 2) 1)) (sym (div-one a))
+first_digit : (a : ℕ) → a % 2 ≡ digit (is_on 0 a)
+first_digit a = digit_is a ∙ ap (λ (n : ℕ). digit (eqb (n % 2) 1)) (sym (div-one a))
 
-same-masks : (n a b : ℕ) → a ≤ n → b ≤ n → ((k : ℕ) → is_on k a ≡ is_on k b) → a ≡ b
-same-masks zero a b la lb h = omega arith
-same-masks (suc n) a b la lb h =
-    let halves : a / 2 ≡ b / 2 = same-masks n (a / 2) (b / 2) (omega arith) (omega arith) (λ k. on_half k a ∙ h (1 + k) ∙ sym (on_half k b)) in
-    let firsts : a % 2 ≡ b % 2 = first-digit a ∙ ap digit (h 0) ∙ sym (first-digit b) in
+same_masks : (n a b : ℕ) → a ≤ n → b ≤ n → ((k : ℕ) → is_on k a ≡ is_on k b) → a ≡ b
+same_masks zero a b la lb h = omega arith
+same_masks (suc n) a b la lb h =
+    let halves : a / 2 ≡ b / 2 = same_masks n (a / 2) (b / 2) (omega arith) (omega arith) (λ k. on_half k a ∙ h (1 + k) ∙ sym (on_half k b)) in
+    let firsts : a % 2 ≡ b % 2 = first_digit a ∙ ap digit (h 0) ∙ sym (first_digit b) in
     omega (arith, div-add-mod' a 2, div-add-mod' b 2)
 
 -- a fact that implies another is not changed by it
@@ -92,14 +92,14 @@ and_never false y h = refl
 and_never true false h = refl
 and_never true true h = h refl
 
-needs-on : (s on : ℕ) → ((k : ℕ) → is_on k on ≡ true → is_on k s ≡ true) → bit_and s on ≡ on
-needs-on s on h =
-    same-masks on (bit_and s on) on (and_le_r s on) (omega arith) (λ k. on_both k s on ∙ and_same (is_on k s) (is_on k on) (h k))
+needs_on : (s on : ℕ) → ((k : ℕ) → is_on k on ≡ true → is_on k s ≡ true) → bit_and s on ≡ on
+needs_on s on h =
+    same_masks on (bit_and s on) on (and_le_r s on) (omega arith) (λ k. on_both k s on ∙ and_same (is_on k s) (is_on k on) (h k))
 
-needs-off : (s off : ℕ) → ((k : ℕ) → is_on k off ≡ true → is_on k s ≡ false) → bit_and s off ≡ 0
-needs-off s off h =
-    same-masks off (bit_and s off) 0 (and_le_r s off) (omega arith)
-    (λ k. on_both k s off ∙ and_never (is_on k s) (is_on k off) (h k) ∙ sym (on-nothing k))
+needs_off : (s off : ℕ) → ((k : ℕ) → is_on k off ≡ true → is_on k s ≡ false) → bit_and s off ≡ 0
+needs_off s off h =
+    same_masks off (bit_and s off) 0 (and_le_r s off) (omega arith)
+    (λ k. on_both k s off ∙ and_never (is_on k s) (is_on k off) (h k) ∙ sym (on_nothing k))
 
 pub meets : (s on off : ℕ) → Meets s on off (met_by s on off)
 meets s on off = record {
@@ -111,12 +111,12 @@ meets s on off = record {
       λ e k h.
       let none = eqb-true (bit_and s off) 0 (and_parts (eqb (bit_and s on) on) (eqb (bit_and s off) 0) e).1 in
       ⊎_elim
-      (λ t. absurd (both_ways (is_on k 0) (on-nothing k) (sym (ap (is_on k) none) ∙ on_both k s off ∙ and_from (is_on k s) (is_on k off) t h)))
+      (λ t. absurd (both_ways (is_on k 0) (on_nothing k) (sym (ap (is_on k) none) ∙ on_both k s off ∙ and_from (is_on k s) (is_on k off) t h)))
       (λ f. f)
       (cases_Bool (is_on k s));
   enough =
       λ ons offs.
       and_from (eqb (bit_and s on) on) (eqb (bit_and s off) 0)
-      (eq-eqb (bit_and s on) on (needs-on s on ons))
-      (eq-eqb (bit_and s off) 0 (needs-off s off offs));
+      (eq-eqb (bit_and s on) on (needs_on s on ons))
+      (eq-eqb (bit_and s off) 0 (needs_off s off offs));
 }

@@ -10,7 +10,7 @@ use Rattle.words.specs.Words.{field, kind, first_word}
 use Rattle.words.specs.Tests.{all}
 use Rattle.words.specs.Format.{Step, wrong, more, ends, onto, got, stop, is_nil, closing, ending, run, reading}
 use Rattle.words.proofs.Reading.{after, run_short, turn}
-use Rattle.words.proofs.Tests.{onto-more, check-more}
+use Rattle.words.proofs.Tests.{onto_more, check_more}
 use Rattle.sitelayout.specs.declared.Entry.{Entry}
 use Rattle.sitelayout.specs.declared.Head.{Head}
 use Rattle.sitelayout.specs.declared.Mark.{Mark}
@@ -20,15 +20,15 @@ use Rattle.sitelayout.specs.OneWord.{head_of, mask_of, reward_of, entry_of, move
 use Rattle.sitelayout.specs.Site.{Site, taken, total, good_cell, valid}
 use Rattle.sitelayout.specs.Layout as layout
 use Rattle.sitelayout.specs.Layout.{Draft, fresh, marking, listing, moving, place_of, padded, marked, read_entry, moved, read_move, read_word, whole_book, site_format}
-use Rattle.sitelayout.proofs.Account.{same_more, more_is_no_end, Good, word_kept, end_word_reads, whole-book, book-kept}
+use Rattle.sitelayout.proofs.Account.{same_more, more_is_no_end, Good, word_kept, end_word_reads, whole_book_is, book_kept}
 use Rattle.sitelayout.proofs.OneWords.{GoodHead, head_fields, mask_fields, reward_fields, entry_fields, move_fields}
-use Rattle.sitelayout.proofs.Valid.{cell-good}
+use Rattle.sitelayout.proofs.Valid.{cell_good}
 use Rattle.siteverdict.specs.declared.Counts.{Counts}
 use Rattle.siteverdict.specs.Counting.{bound_of, moves_in, Counted}
-use Rattle.siteverdict.proofs.Waiting.{moves-append, moves-filled}
+use Rattle.siteverdict.proofs.Waiting.{moves-append, moves_filled}
 use Rattle.sitebook.specs.Storing.{Held, nothing, filled, with_head, with_mask, with_mark, with_entry, with_move, put_by, put_of, edges_of, book_of, Closable}
 use Rattle.sitebook.specs.Tables.{cut, site_of}
-use Rattle.sitebook.proofs.Tables.{flat, starts_of, ends_of, flat-length, flat-filled, starts-length, starts-filled, starts-push, flat-push, edges_are, cut-edges, rising}
+use Rattle.sitebook.proofs.Tables.{flat, starts_of, ends_of, flat-length, flat_filled, starts-length, starts_filled, starts-push, flat-push, edges_are, cut_edges, rising}
 
 pub record Keeps (h : Held) (head : Head) (ms : List Mark) (cs : List (List Move)) : Type 0 where
   pub labels : h.labels ≡ head.labels
@@ -55,7 +55,7 @@ stores_marked h head ms of =
 stores_entry : (h : Held) (head : Head) (ms : List Mark) (cs : List (List Move)) (w : ℕ) (x : Entry) (e : Draft) → Keeps h head ms cs → entry_of head.states head.actions w ≡ Ok x → read_entry head ms cs x ≡ more e → (kind w ≡ 4) × Stores (with_entry h w) e
 stores_entry h head ms cs w x e of said is =
     let s = entry_fields head.states head.actions w x said in
-    let passed = check-more (leb (length cs) (place_of head x)) NotRising (more (moving head ms (padded (place_of head x) cs) [] (x.outcomes - 1))) e is in
+    let passed = check_more (leb (length cs) (place_of head x)) NotRising (more (moving head ms (padded (place_of head x) cs) [] (x.outcomes - 1))) e is in
     let k : ℕ = place_of head x in
     let le : length cs ≤ k = leb-true (length cs) k passed.0 in
     let st : field w 0 12 ≡ x.state = ap (λ (y : Entry). y.state) s.3 in
@@ -70,27 +70,27 @@ stores_entry h head ms cs w x e of said is =
     ∙ ap (λ n. filled (k + 1) n h.starts) row
     ∙ ap (filled (k + 1) (moves_in cs)) of.starts
     ∙ ap (λ n. starts_of 0 cs ++ replicate (k + 1 - n) (moves_in cs)) (starts-length 0 cs)
-    ∙ sym (ap (starts_of 0) cells ∙ starts-filled cs (k + 1 - length cs)) in (
+    ∙ sym (ap (starts_of 0) cells ∙ starts_filled cs (k + 1 - length cs)) in (
       s.0,
       subst (Stores (with_entry h w)) (same_more passed.1) (record {
         labels = of.labels;
         actions = of.actions;
         marks = of.marks;
         starts = starts;
-        moves = of.moves ∙ sym (ap flat cells ∙ flat-filled cs (k + 1 - length cs));
+        moves = of.moves ∙ sym (ap flat cells ∙ flat_filled cs (k + 1 - length cs));
       }),
     )
 
 stores_moved : (h : Held) (head : Head) (ms : List Mark) (cs : List (List Move)) (mv : List Move) (due : ℕ) (e : Draft) → Keeps h head ms (cs ++ (mv ∷ [])) → moved head ms cs mv due ≡ more e → Stores h e
 stores_moved h head ms cs mv zero e of is =
-    let passed = check-more (eqb (total mv) 8) WrongTotal (more (listing head ms (cs ++ (mv ∷ [])))) e is in
+    let passed = check_more (eqb (total mv) 8) WrongTotal (more (listing head ms (cs ++ (mv ∷ [])))) e is in
     subst (Stores h) (same_more passed.1) of
 stores_moved h head ms cs mv (suc due) e of is = subst (Stores h) (same_more is) of
 
 stores_move : (h : Held) (head : Head) (ms : List Mark) (cs : List (List Move)) (mv : List Move) (due w : ℕ) (x : Move) (e : Draft) → Keeps h head ms (cs ++ (mv ∷ [])) → move_of head.states w ≡ Ok x → read_move head ms cs mv due x ≡ more e → (kind w ≡ 5) × Stores (with_move h w) e
 stores_move h head ms cs mv due w x e of said is =
     let s = move_fields head.states w x said in
-    let passed = check-more (not (taken x.target mv)) NotRising (moved head ms cs (mv ++ (x ∷ [])) due) e is in (
+    let passed = check_more (not (taken x.target mv)) NotRising (moved head ms cs (mv ++ (x ∷ [])) due) e is in (
       s.0,
       stores_moved (with_move h w) head ms cs (mv ++ (x ∷ [])) due e (record {
         labels = of.labels;
@@ -105,7 +105,7 @@ stores_move h head ms cs mv due w x e of said is =
 pub stores_step : (h : Held) (d e : Draft) (w : ℕ) → Stores h d → read_word d w ≡ more e → (kind w < 15) × Stores (put_of h w) e
 unfolding read_word
 stores_step h fresh e w of is =
-    let said = onto-more (head_of w) (λ x. more (marking x [] None)) e is in
+    let said = onto_more (head_of w) (λ x. more (marking x [] None)) e is in
     let s = head_fields w said.0 said.1.0 in (
       omega (arith, s.0),
       subst (λ k. Stores (put_by k h w) e) (sym s.0) (subst (Stores (with_head h w)) (same_more said.1.1) (record {
@@ -117,14 +117,14 @@ stores_step h fresh e w of is =
       })),
     )
 stores_step h (marking head ms None) e w of is =
-    let said = onto-more (mask_of head.labels w) (λ m. more (marking head ms (Some m))) e is in
+    let said = onto_more (mask_of head.labels w) (λ m. more (marking head ms (Some m))) e is in
     let s = mask_fields head.labels w said.0 said.1.0 in (
       omega (arith, s.0),
       subst (λ k. Stores (put_by k h w) e) (sym s.0) (subst (Stores (with_mask h w)) (same_more said.1.1)
           (record { labels = of.labels; actions = of.actions; marks = of.marks; starts = of.starts; moves = of.moves }, s.3)),
     )
 stores_step h (marking head ms (Some k)) e w of is =
-    let said = onto-more (reward_of w) (λ r. more (marked head (ms ++ (record { mask = k; raised = r.raised; origin = r.origin } ∷ [])))) e is in
+    let said = onto_more (reward_of w) (λ r. more (marked head (ms ++ (record { mask = k; raised = r.raised; origin = r.origin } ∷ [])))) e is in
     let s = reward_fields w said.0 said.1.0 in
     let kept = of.0 in
     let mark : ◌≡◌ {A = Mark} (record { mask = h.mask; raised = field w 0 12; origin = field w 12 12 }) (record { mask = k; raised = said.0.raised; origin = said.0.origin }) =
@@ -144,12 +144,12 @@ stores_step h (listing head ms cs) e w of is =
     elim (cases_Bool (eqb (kind w) 15)) [
       | inl t ↦ absurd (more_is_no_end (sym is ∙ cond-true _ ends (onto (entry_of head.states head.actions w) (read_entry head ms cs)) t))
       | inr t ↦
-          let said = onto-more (entry_of head.states head.actions w) (read_entry head ms cs) e (sym (cond-false _ ends (onto (entry_of head.states head.actions w) (read_entry head ms cs)) t) ∙ is) in
+          let said = onto_more (entry_of head.states head.actions w) (read_entry head ms cs) e (sym (cond-false _ ends (onto (entry_of head.states head.actions w) (read_entry head ms cs)) t) ∙ is) in
           let s = stores_entry h head ms cs w said.0 e of said.1.0 said.1.1 in
           (omega (arith, s.0), subst (λ k. Stores (put_by k h w) e) (sym s.0) s.1)
     ]
 stores_step h (moving head ms cs mv due) e w of is =
-    let said = onto-more (move_of head.states w) (read_move head ms cs mv due) e is in
+    let said = onto_more (move_of head.states w) (read_move head ms cs mv due) e is in
     let s = stores_move h head ms cs mv due w said.0 e of said.1.0 said.1.1 in
     (omega (arith, s.0), subst (λ k. Stores (put_by k h w) e) (sym s.0) s.1)
 
@@ -165,24 +165,24 @@ module _ (h : Held) (head : Head) (ms : List Mark) (cs : List (List Move)) (of :
       let all : length h.marks * h.actions ≡ n = ap (λ x. x * h.actions) long ∙ ap (λ x. head.states * x) of.actions in
       let row : length h.moves ≡ moves_in cs = ap length of.moves ∙ flat-length cs in
       let up : n + 1 - length (starts_of 0 cs) ≡ n - length cs + 1 = omega (arith, starts-length 0 cs) in
-      let same : moves_in cs ≡ 0 + moves_in (padded n cs) = sym (zero-add (moves_in (padded n cs)) ∙ moves-filled cs (n - length cs)) in
+      let same : moves_in cs ≡ 0 + moves_in (padded n cs) = sym (zero-add (moves_in (padded n cs)) ∙ moves_filled cs (n - length cs)) in
       ap (λ x. filled (x + 1) (length h.moves) h.starts) all
       ∙ ap (λ x. filled (n + 1) x h.starts) row
       ∙ ap (filled (n + 1) (moves_in cs)) of.starts
       ∙ ap (λ x. starts_of 0 cs ++ replicate x (moves_in cs)) up
       ∙ ap (λ (l : List ℕ). starts_of 0 cs ++ l) (sym (replicate_more (n - length cs) (moves_in cs)))
       ∙ sym (append_assoc (starts_of 0 cs) (replicate (n - length cs) (moves_in cs)) (moves_in cs ∷ []))
-      ∙ ap (λ (l : List ℕ). l ++ (moves_in cs ∷ [])) (sym (starts-filled cs (n - length cs)))
+      ∙ ap (λ (l : List ℕ). l ++ (moves_in cs ∷ [])) (sym (starts_filled cs (n - length cs)))
       ∙ ap (λ x. starts_of 0 (padded n cs) ++ (x ∷ [])) same
       ∙ edges_are 0 (padded n cs)
 
   row_at_end : h.moves ≡ flat (padded (head.states * head.actions) cs)
-  row_at_end = of.moves ∙ sym (flat-filled cs (head.states * head.actions - length cs))
+  row_at_end = of.moves ∙ sym (flat_filled cs (head.states * head.actions - length cs))
 
   book_at_end : book_of h ≡ layout.book_of head ms cs
   book_at_end =
       let cells : cut (edges_of h) h.moves ≡ padded (head.states * head.actions) cs =
-      ap (λ (l : List ℕ). cut l h.moves) edges_at_end ∙ ap (cut (0 ∷ ends_of 0 (padded (head.states * head.actions) cs))) row_at_end ∙ cut-edges 0 (padded (head.states * head.actions) cs) [] refl in
+      ap (λ (l : List ℕ). cut l h.moves) edges_at_end ∙ ap (cut (0 ∷ ends_of 0 (padded (head.states * head.actions) cs))) row_at_end ∙ cut_edges 0 (padded (head.states * head.actions) cs) [] refl in
       ap (λ n. site_of n h.actions h.marks (edges_of h) h.moves) of.labels
       ∙ ap (λ n. site_of head.labels n h.marks (edges_of h) h.moves) of.actions
       ∙ ap (λ (l : List Mark). site_of head.labels head.actions l (edges_of h) h.moves) of.marks
@@ -195,24 +195,24 @@ module _ (h : Held) (head : Head) (ms : List Mark) (cs : List (List Move)) (of :
       (rising (padded (head.states * head.actions) cs)))
 
 -- a cell has eight outcomes at most
-moves-few : (states : ℕ) (cs : List (List Move)) → all (good_cell states) cs ≡ true → moves_in cs ≤ 8 * length cs
-moves-few states [] e = omega arith
-moves-few states (c ∷ cs) e =
+moves_few : (states : ℕ) (cs : List (List Move)) → all (good_cell states) cs ≡ true → moves_in cs ≤ 8 * length cs
+moves_few states [] e = omega arith
+moves_few states (c ∷ cs) e =
     let p = and_parts (good_cell states c) (all (good_cell states) cs) e in
-    omega (arith, (cell-good states c p.0).few, moves-few states cs p.1)
+    omega (arith, (cell_good states c p.0).few, moves_few states cs p.1)
 
-table-room : (head : Head) (cs : List (List Move)) → GoodHead head → all (good_cell head.states) cs ≡ true → length cs ≤ head.states * head.actions → moves_in cs ≤ 262144
-table-room head cs good each few = omega (arith, moves-few head.states cs each, few, mul-le head.states head.actions 4096 8 good.1 good.4)
+table_room : (head : Head) (cs : List (List Move)) → GoodHead head → all (good_cell head.states) cs ≡ true → length cs ≤ head.states * head.actions → moves_in cs ≤ 262144
+table_room head cs good each few = omega (arith, moves_few head.states cs each, few, mul-le head.states head.actions 4096 8 good.1 good.4)
 
 -- there is room for one more word
 pub stores_room : (h : Held) (d : Draft) → Good d → Stores h d → (h.actions ≤ 8) × (length h.moves < 2 ^ 32)
 stores_room h fresh good of = (omega (arith, ap (λ (x : Held). x.actions) of), omega (arith, ap (λ (x : Held). length x.moves) of))
 stores_room h (marking head ms None) good of = (omega (arith, of.actions, good.0.0.4), omega (arith, ap length of.moves))
 stores_room h (marking head ms (Some k)) good of = (omega (arith, of.0.actions, good.0.0.4), omega (arith, ap length of.0.moves))
-stores_room h (listing head ms cs) good of = (omega (arith, of.actions, good.0.0.4), omega (arith, ap length of.moves, flat-length cs, table-room head cs good.0.0 good.1.1.0 good.1.1.1))
+stores_room h (listing head ms cs) good of = (omega (arith, of.actions, good.0.0.4), omega (arith, ap length of.moves, flat-length cs, table_room head cs good.0.0 good.1.1.0 good.1.1.1))
 stores_room h (moving head ms cs mv due) good of = (
   omega (arith, of.actions, good.0.0.4),
-  omega (arith, ap length of.moves, flat-length (cs ++ (mv ∷ [])), moves-append cs (mv ∷ []), table-room head cs good.0.0 good.1.1.0 (omega (arith, good.1.1.1.0)), good.1.1.1.1.1.1),
+  omega (arith, ap length of.moves, flat-length (cs ++ (mv ∷ [])), moves-append cs (mv ∷ []), table_room head cs good.0.0 good.1.1.0 (omega (arith, good.1.1.1.0)), good.1.1.1.1.1.1),
 )
 
 -- the pass so far: the tables follow a draft, from which reading on gives the book
@@ -232,14 +232,14 @@ storing_start bytes c h b read counted is = record { book = b; read = read; coun
 stop_is_no_book : {r : Refusal} {p : ℕ} {b : Site} → stop r p ≡ got b → ⊥
 stop_is_no_book e = let z : ◌≡◌ {A = ℕ} 0 1 = cc in omega arith
 
-closing-whole : (whole : Result Site Refusal) (p : ℕ) (b : Site) → closing whole p ≡ got b → whole ≡ Ok b
-closing-whole (Ok x) p b e = cc
-closing-whole (Err r) p b e = absurd (stop_is_no_book e)
+closing_whole : (whole : Result Site Refusal) (p : ℕ) (b : Site) → closing whole p ≡ got b → whole ≡ Ok b
+closing_whole (Ok x) p b e = cc
+closing_whole (Err r) p b e = absurd (stop_is_no_book e)
 
-ending-whole : (whole : Result Site Refusal) (p w : ℕ) (last : Bool) (b : Site) → ending whole p w last ≡ got b → whole ≡ Ok b
-ending-whole whole p w last b e =
+ending_whole : (whole : Result Site Refusal) (p w : ℕ) (last : Bool) (b : Site) → ending whole p w last ≡ got b → whole ≡ Ok b
+ending_whole whole p w last b e =
     elim (cases_Bool (eqb (w % 2 ^ 28) p && last)) [
-      | inl t ↦ closing-whole whole p b (sym (cond-true _ (closing whole p) (stop WrongEnd p) t) ∙ e)
+      | inl t ↦ closing_whole whole p b (sym (cond-true _ (closing whole p) (stop WrongEnd p) t) ∙ e)
       | inr t ↦ absurd (stop_is_no_book (sym (cond-false _ (closing whole p) (stop WrongEnd p) t) ∙ e))
     ]
 
@@ -276,18 +276,18 @@ module _ (bytes rest : List ℕ) (c : Counts) (h : Held) (s : Storing bytes rest
     abbrev pub Closes : Type 0
     Closes = (reading site_format bytes ≡ got (book_of h)) × Closable c h
 
-    closes-table : (d : Draft) → Good d → Stores h d → whole_book d ≡ Ok s.book → Closes
+    closes_table : (d : Draft) → Good d → Stores h d → whole_book d ≡ Ok s.book → Closes
     unfolding whole_book
-    closes-table fresh good kept whole = let z : ◌≡◌ {A = ℕ} 0 1 = cc in absurd (omega arith)
-    closes-table (marking head ms o) good kept whole = let z : ◌≡◌ {A = ℕ} 0 1 = cc in absurd (omega arith)
-    closes-table (moving head ms cs mv due) good kept whole = let z : ◌≡◌ {A = ℕ} 0 1 = cc in absurd (omega arith)
-    closes-table (listing head ms cs) good kept whole =
+    closes_table fresh good kept whole = let z : ◌≡◌ {A = ℕ} 0 1 = cc in absurd (omega arith)
+    closes_table (marking head ms o) good kept whole = let z : ◌≡◌ {A = ℕ} 0 1 = cc in absurd (omega arith)
+    closes_table (moving head ms cs mv due) good kept whole = let z : ◌≡◌ {A = ℕ} 0 1 = cc in absurd (omega arith)
+    closes_table (listing head ms cs) good kept whole =
         let count = good.1.0 in
         let few = good.1.1.1 in
-        let is : book_of h ≡ s.book = book_at_end h head ms cs kept count few ∙ (whole-book head ms cs s.book whole).1 in (
+        let is : book_of h ≡ s.book = book_at_end h head ms cs kept count few ∙ (whole_book_is head ms cs s.book whole).1 in (
           s.read ∙ ap (λ (b : Site). got b) (sym is),
           record {
-            sound = ap valid is ∙ (book-kept (listing head ms cs) s.book good whole).0;
+            sound = ap valid is ∙ (book_kept (listing head ms cs) s.book good whole).0;
             rising = rising_at_end h head ms cs kept count few;
             most = s.counted.bound ∙ ap (λ (b : Site). bound_of b.marks) (sym is);
             states = omega (arith, ap length kept.marks, count, good.0.0.1);
@@ -300,8 +300,8 @@ module _ (bytes rest : List ℕ) (c : Counts) (h : Held) (s : Storing bytes rest
     closes_by (wrong r) is fifteen = absurd (stop_is_no_book (sym (ap (after site_format s.draft s.place w next) is) ∙ here))
     closes_by (more e) is fifteen = absurd (omega (arith, (stores_step h s.draft e w s.kept is).0))
     closes_by ends is fifteen =
-        closes-table s.draft s.good s.kept
-        (ending-whole (whole_book s.draft) s.place w (is_nil next) s.book (sym (ap (after site_format s.draft s.place w next) is) ∙ here))
+        closes_table s.draft s.good s.kept
+        (ending_whole (whole_book s.draft) s.place w (is_nil next) s.book (sym (ap (after site_format s.draft s.place w next) is) ∙ here))
 
     pub storing_end : kind w ≡ 15 → Closes
     storing_end fifteen = closes_by (read_word s.draft w) refl fifteen

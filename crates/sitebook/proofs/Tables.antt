@@ -28,8 +28,8 @@ cut_at [] row k h = absurd (omega arith)
 cut_at (s ∷ ts) row k h = cut_from_at s ts row k (omega arith) ∙ ap (λ n. take (get_or (s ∷ ts) n 0 - get_or (s ∷ ts) k 0) (drop (get_or (s ∷ ts) k 0) row)) (sym (add-one k))
 
 -- the place of a state and an action has both its edges
-pub place-within : (labels actions : ℕ) (marks : List Mark) (starts : List ℕ) (row : List Move) (s a : ℕ) → valid (site_of labels actions marks starts row) ≡ true → s < length marks → a < actions → s * actions + a + 1 < length starts
-place-within labels actions marks starts row s a v hs ha =
+pub place_within : (labels actions : ℕ) (marks : List Mark) (starts : List ℕ) (row : List Move) (s a : ℕ) → valid (site_of labels actions marks starts row) ≡ true → s < length marks → a < actions → s * actions + a + 1 < length starts
+place_within labels actions marks starts row s a v hs ha =
     let p = validly (site_of labels actions marks starts row) v in
     omega (arith, p.table, cut-length starts row, mul-add-lt s actions a (length marks) hs ha)
 
@@ -56,12 +56,12 @@ pub flat-length : (cs : List (List Move)) → length (flat cs) ≡ moves_in cs
 flat-length [] = refl
 flat-length (c ∷ cs) = length-append c (flat cs) ∙ ap (λ n. length c + n) (flat-length cs)
 
-flat-none : (n : ℕ) → flat (replicate n []) ≡ []
-flat-none zero = refl
-flat-none (suc n) = flat-none n
+flat_none : (n : ℕ) → flat (replicate n []) ≡ []
+flat_none zero = refl
+flat_none (suc n) = flat_none n
 
-pub flat-filled : (cs : List (List Move)) (n : ℕ) → flat (cs ++ replicate n []) ≡ flat cs
-flat-filled cs n = flat_append cs (replicate n []) ∙ ap (λ l. flat cs ++ l) (flat-none n) ∙ append-nil (flat cs)
+pub flat_filled : (cs : List (List Move)) (n : ℕ) → flat (cs ++ replicate n []) ≡ flat cs
+flat_filled cs n = flat_append cs (replicate n []) ∙ ap (λ l. flat cs ++ l) (flat_none n) ∙ append-nil (flat cs)
 
 pub starts-append : (n : ℕ) (cs ds : List (List Move)) → starts_of n (cs ++ ds) ≡ starts_of n cs ++ starts_of (n + moves_in cs) ds
 starts-append n [] ds = ap (λ k. starts_of k ds) (sym (add-zero n))
@@ -76,8 +76,8 @@ starts_none : (n k : ℕ) → starts_of n (replicate k []) ≡ replicate k n
 starts_none n zero = refl
 starts_none n (suc k) = ap (λ l. n ∷ l) (ap (λ x. starts_of x (replicate k [])) (add-zero n) ∙ starts_none n k)
 
-pub starts-filled : (cs : List (List Move)) (k : ℕ) → starts_of 0 (cs ++ replicate k []) ≡ starts_of 0 cs ++ replicate k (moves_in cs)
-starts-filled cs k =
+pub starts_filled : (cs : List (List Move)) (k : ℕ) → starts_of 0 (cs ++ replicate k []) ≡ starts_of 0 cs ++ replicate k (moves_in cs)
+starts_filled cs k =
     starts-append 0 cs (replicate k [])
     ∙ ap (λ l. starts_of 0 cs ++ l) (starts_none (0 + moves_in cs) k ∙ ap (replicate k) (zero-add (moves_in cs)))
 
@@ -98,14 +98,14 @@ edges_are n [] = ap (λ k. k ∷ []) (add-zero n)
 edges_are n (c ∷ cs) = ap (λ l. n ∷ l) (ap (λ k. starts_of (n + length c) cs ++ (k ∷ [])) (sym (add_assoc n (length c) (moves_in cs))) ∙ edges_are (n + length c) cs)
 
 -- cutting at the edges gives the cells back
-pub cut-edges : (n : ℕ) (cs : List (List Move)) (before : List Move) → length before ≡ n → cut_from n (ends_of n cs) (before ++ flat cs) ≡ cs
-cut-edges n [] before e = refl
-cut-edges n (c ∷ cs) before e =
+pub cut_edges : (n : ℕ) (cs : List (List Move)) (before : List Move) → length before ≡ n → cut_from n (ends_of n cs) (before ++ flat cs) ≡ cs
+cut_edges n [] before e = refl
+cut_edges n (c ∷ cs) before e =
     let one : take (n + length c - n) (drop n (before ++ (c ++ flat cs))) ≡ c =
     ap (take (n + length c - n)) (drop_at before (c ++ flat cs) n e) ∙ take_at c (flat cs) (n + length c - n) (omega arith) in
     let rest : cut_from (n + length c) (ends_of (n + length c) cs) (before ++ (c ++ flat cs)) ≡ cs =
     ap (cut_from (n + length c) (ends_of (n + length c) cs)) (sym (append_assoc before c (flat cs)))
-    ∙ cut-edges (n + length c) cs (before ++ c) (length-append before c ∙ ap (λ k. k + length c) e) in
+    ∙ cut_edges (n + length c) cs (before ++ c) (length-append before c ∙ ap (λ k. k + length c) e) in
     ap (λ x. x ∷ cut_from (n + length c) (ends_of (n + length c) cs) (before ++ (c ++ flat cs))) one ∙ ap (λ l. c ∷ l) rest
 
 -- the edges rise to the end of the row

@@ -13,7 +13,7 @@ use Rattle.sitelayout.specs.declared.Mark.{Mark}
 use Rattle.sitelayout.specs.declared.Move.{Move}
 use Rattle.sitelayout.specs.Site.{Site, taken, apart, total, good_mark, good_move, good_cell, waits, valid}
 use Rattle.sitelayout.proofs.OneWords.{GoodOutcome}
-use Rattle.sitelayout.proofs.Valid.{mark_parts, move_parts, CellGood, cell-good, Validly, validly}
+use Rattle.sitelayout.proofs.Valid.{mark_parts, move_parts, CellGood, cell_good, Validly, validly}
 use Rattle.siteverdict.specs.Counting.{size, bound_of}
 use Rattle.sitebook.specs.Models.{blank, mark_at, cell_at, outcome_of, site_model}
 
@@ -53,8 +53,8 @@ none_nil (m ∷ c) e = absurd (false≢true e)
 cell_at_good : (states : ℕ) (cs : List (List Move)) (k : ℕ) → all (good_cell states) cs ≡ true → CellGood states (slice_index_or cs k [])
 cell_at_good states cs k e =
     elim (cases_lt k (length cs)) [
-      | inl h ↦ cell-good states (slice_index_or cs k []) (all_at (good_cell states) cs k [] e h)
-      | inr h ↦ subst (CellGood states) (sym (get_or_past cs k [] h)) (cell-good states [] refl)
+      | inl h ↦ cell_good states (slice_index_or cs k []) (all_at (good_cell states) cs k [] e h)
+      | inr h ↦ subst (CellGood states) (sym (get_or_past cs k [] h)) (cell_good states [] refl)
     ]
 
 taken_at : (t : ℕ) (ms : List Move) (k : ℕ) (d : Move) → k < length ms → t ≡ (get_or ms k d).target → taken t ms ≡ true
@@ -86,7 +86,7 @@ module _ (b : Site) (v : valid b ≡ true) where
   cell s a =
       elim (cases_Bool (nat_lt s (length b.marks) && nat_lt a b.actions)) [
         | inl t ↦ subst (CellGood (length b.marks)) (sym (cond-true _ (slice_index_or b.cells (s * b.actions + a) []) [] t)) (cell_at_good (length b.marks) b.cells (s * b.actions + a) p.cells)
-        | inr t ↦ subst (CellGood (length b.marks)) (sym (cond-false _ (slice_index_or b.cells (s * b.actions + a) []) [] t)) (cell-good (length b.marks) [] refl)
+        | inr t ↦ subst (CellGood (length b.marks)) (sym (cond-false _ (slice_index_or b.cells (s * b.actions + a) []) [] t)) (cell_good (length b.marks) [] refl)
       ]
 
   offers_law : (s a : ℕ) → not (none (cell_at b s a)) ≡ true → (nat_lt s (length b.marks) ≡ true) × (a < b.actions)

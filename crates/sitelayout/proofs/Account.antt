@@ -1,6 +1,6 @@
 -- Whatever is accepted is the encoding of the site book that was read: the words read so far are those of the draft. For
 -- others: `Good`, what is known of a draft; `word_kept`, that each word keeps it; `end_word_reads`, that only an end word ends;
--- `whole-book` and `book-kept` of the book at the end; `total-push`, `padded-length` and the like.
+-- `whole_book_is` and `book_kept` of the book at the end; `total-push`, `padded-length` and the like.
 use Rattle.std.proofs.Common.{◌≡◌, ℕ, zero, suc, ◌+◌, ◌-◌, ◌*◌, ◌/◌, ◌%◌, ◌^◌, ◌<◌, ◌≤◌, Bool, true, false, cond, not, ◌&&◌, eqb, ltb, leb, List, [], ◌∷◌, ◌++◌, length, replicate, Some, None, Ok, Err, Option, Result, sym, refl, ap, ◌∙◌, subst, inl, inr, append_assoc, append-nil, zero-add, arith, length-append}
 use lib.ListN.{length-replicate}
 use Rattle.std.proofs.lemmas.Nat.{div-mul-add, mod-mul-add, mul-add-lt}
@@ -11,7 +11,7 @@ use Rattle.refusal.specs.declared.Refusal.TheVariants.{WrongTotal, NotRising, No
 use Rattle.words.specs.Words.{kind}
 use Rattle.words.specs.Format.{more, ends, onto}
 use Rattle.words.specs.Tests.{all, within, none}
-use Rattle.words.proofs.Tests.{all_push, all_append, all_replicate, check-more, onto-more, onto-ends, check-ends, within-from}
+use Rattle.words.proofs.Tests.{all_push, all_append, all_replicate, check_more, onto_more, onto_ends, check_ends, within_from}
 use Rattle.sitelayout.specs.declared.Entry.{Entry}
 use Rattle.sitelayout.specs.declared.Head.{Head}
 use Rattle.sitelayout.specs.declared.Mark.{Mark}
@@ -20,7 +20,7 @@ use Rattle.sitelayout.specs.declared.Worth.{Worth}
 use Rattle.sitelayout.specs.OneWord.{word_of_head, word_of_mask, word_of_reward, word_of_entry, word_of_move, head_of, mask_of, reward_of, entry_of, move_of}
 use Rattle.sitelayout.specs.Site.{Site, taken, apart, total, good_mark, good_move, good_cell, waits, valid}
 use Rattle.sitelayout.specs.Layout.{mark_words, move_words, cell_word, cell_words, site_words, Draft, fresh, marking, listing, moving, place_of, padded, marked, read_entry, moved, read_move, read_word, book_of, whole_book}
-use Rattle.sitelayout.proofs.OneWords.{GoodHead, head-reads, mask-reads, reward-reads, entry_reads, move_reads}
+use Rattle.sitelayout.proofs.OneWords.{GoodHead, head_reads, mask_reads, reward_reads, entry_reads, move_reads}
 
 abbrev head_words : Head → ℕ
 head_words h = word_of_head h.states h.labels h.actions
@@ -127,7 +127,7 @@ Next d w t = Good t × (written t ≡ written d ++ (w ∷ []))
 
 mark_next : (h : Head) (ms : List Mark) (m w : ℕ) (r : Worth) → Good (marking h ms (Some m)) → reward_of w ≡ Ok r → Next (marking h ms (Some m)) w (marked h (ms ++ (record { mask = m; raised = r.raised; origin = r.origin } ∷ [])))
 mark_next h ms m w r g said =
-    let told = reward-reads w r said in
+    let told = reward_reads w r said in
     let mark : Mark = record { mask = m; raised = r.raised; origin = r.origin } in
     let one : good_mark h.labels (record { mask = m; raised = r.raised; origin = r.origin }) ≡ true =
     and_from (ltb m (2 ^ h.labels)) (leb r.raised 4000 && ltb r.origin 4096) (lt-ltb m (2 ^ h.labels) g.1.1) (and_from (leb r.raised 4000) (ltb r.origin 4096) (le-leb r.raised 4000 told.1.0) (lt-ltb r.origin 4096 told.1.1)) in
@@ -171,9 +171,9 @@ cell_word_push a k mv m =
     let opens : (l : List Move) → cell_word a k (l ++ (m ∷ [])) ≡ word_of_entry (k / a) (k % a) (length (l ++ (m ∷ []))) ∷ move_words (l ++ (m ∷ [])) = λ l. elim l as (λ l. cell_word a k (l ++ (m ∷ [])) ≡ word_of_entry (k / a) (k % a) (length (l ++ (m ∷ []))) ∷ move_words (l ++ (m ∷ []))) [ [] ↦ refl | x ∷ xs ↦ refl ] in
     opens mv ∙ (λ i. word_of_entry (k / a) (k % a) (length_push mv m i) ∷ move_words_push mv m i)
 
-pushed-some : (mv : List Move) (m : Move) → none (mv ++ (m ∷ [])) ≡ false
-pushed-some [] m = refl
-pushed-some (x ∷ mv) m = refl
+pushed_some : (mv : List Move) (m : Move) → none (mv ++ (m ∷ [])) ≡ false
+pushed_some [] m = refl
+pushed_some (x ∷ mv) m = refl
 
 -- the words of an open entry, and one more
 open_push : (h : Head) (ms : List Mark) (cs : List (List Move)) (mv : List Move) (due : ℕ) (v : ℕ) → written (moving h ms cs mv due) ++ (v ∷ []) ≡ head_words h ∷ (mark_words ms ++ (cell_words h.actions 0 cs ++ (open_word h (length cs) (length mv + suc due) ∷ (move_words mv ++ (v ∷ [])))))
@@ -185,8 +185,8 @@ move_next : (h : Head) (ms : List Mark) (cs : List (List Move)) (mv : List Move)
     → moved h ms cs (mv ++ (m ∷ [])) due ≡ more t → Next (moving h ms cs mv due) w t
 move_next h ms cs mv zero w m t g said free e =
     let told = move_reads h.states w m said in
-    let eight = check-more (eqb (total (mv ++ (m ∷ []))) 8) WrongTotal (more (listing h ms (cs ++ ((mv ++ (m ∷ [])) ∷ [])))) t e in
-    let one : good_move h.states m ≡ true = and_from (ltb m.target h.states) (within 1 8 m.weight) (lt-ltb m.target h.states told.1.0) (within-from 1 8 m.weight told.1.1 told.1.2) in
+    let eight = check_more (eqb (total (mv ++ (m ∷ []))) 8) WrongTotal (more (listing h ms (cs ++ ((mv ++ (m ∷ [])) ∷ [])))) t e in
+    let one : good_move h.states m ≡ true = and_from (ltb m.target h.states) (within 1 8 m.weight) (lt-ltb m.target h.states told.1.0) (within_from 1 8 m.weight told.1.1 told.1.2) in
     let each = all_push (good_move h.states) mv m g.1.1.1.1.0 one in
     let long = length_push mv m in
     let few : leb (length (mv ++ (m ∷ []))) 8 ≡ true = le-leb (length (mv ++ (m ∷ []))) 8 (omega (arith, long, g.1.1.1.1.1.1)) in
@@ -203,7 +203,7 @@ move_next h ms cs mv zero w m t g said free e =
     ((g.0, (g.1.0, (all_push (good_cell h.states) cs (mv ++ (m ∷ [])) g.1.1.0 cell, omega (arith, length_push cs (mv ++ (m ∷ [])), g.1.1.1.0)))), line)
 move_next h ms cs mv (suc due) w m t g said free e =
     let told = move_reads h.states w m said in
-    let one : good_move h.states m ≡ true = and_from (ltb m.target h.states) (within 1 8 m.weight) (lt-ltb m.target h.states told.1.0) (within-from 1 8 m.weight told.1.1 told.1.2) in
+    let one : good_move h.states m ≡ true = and_from (ltb m.target h.states) (within 1 8 m.weight) (lt-ltb m.target h.states told.1.0) (within_from 1 8 m.weight told.1.1 told.1.2) in
     let long = length_push mv m in
     let count : length (mv ++ (m ∷ [])) + suc due ≡ length mv + suc (suc due) = omega (arith, long) in
     let line : written (moving h ms cs (mv ++ (m ∷ [])) due) ≡ written (moving h ms cs mv (suc due)) ++ (w ∷ []) =
@@ -216,65 +216,65 @@ move_next h ms cs mv (suc due) w m t g said free e =
 pub word_kept : (d t : Draft) (w : ℕ) → Good d → read_word d w ≡ more t → Good t × (written t ≡ written d ++ (w ∷ []))
 unfolding read_word
 word_kept fresh t w g e =
-    let got = onto-more (head_of w) (λ h. more (marking h [] None)) t e in
-    let told = head-reads w got.0 got.1.0 in
+    let got = onto_more (head_of w) (λ h. more (marking h [] None)) t e in
+    let told = head_reads w got.0 got.1.0 in
     subst (Next fresh w) (same_more got.1.1) (((told.1, refl), (omega (arith, told.1.0), tt)), ap (λ v. v ∷ []) (sym told.0))
 word_kept (marking h ms None) t w g e =
-    let got = onto-more (mask_of h.labels w) (λ m. more (marking h ms (Some m))) t e in
-    let told = mask-reads h.labels w got.0 got.1.0 in
+    let got = onto_more (mask_of h.labels w) (λ m. more (marking h ms (Some m))) t e in
+    let told = mask_reads h.labels w got.0 got.1.0 in
     subst (Next (marking h ms None) w) (same_more got.1.1) ((g.0, (g.1.0, told.1)), ap (λ v. head_words h ∷ (mark_words ms ++ (v ∷ []))) (sym told.0))
 word_kept (marking h ms (Some m)) t w g e =
-    let got = onto-more (reward_of w) (λ r. more (marked h (ms ++ (record { mask = m; raised = r.raised; origin = r.origin } ∷ [])))) t e in
+    let got = onto_more (reward_of w) (λ r. more (marked h (ms ++ (record { mask = m; raised = r.raised; origin = r.origin } ∷ [])))) t e in
     subst (Next (marking h ms (Some m)) w) (same_more got.1.1) (mark_next h ms m w got.0 g got.1.0)
 word_kept (listing h ms cs) t w g e =
     elim (cases_Bool (eqb (kind w) 15)) [
       | inl is ↦ let z : ◌≡◌ {A = ℕ} 0 1 = cc (ap (λ b. cond b ends (onto (entry_of h.states h.actions w) (read_entry h ms cs))) is, e) in absurd (omega arith)
       | inr no15 ↦
-          let got = onto-more (entry_of h.states h.actions w) (read_entry h ms cs) t (sym (ap (λ b. cond b ends (onto (entry_of h.states h.actions w) (read_entry h ms cs))) no15) ∙ e) in
-          let rising = check-more (leb (length cs) (place_of h got.0)) NotRising (more (moving h ms (padded (place_of h got.0) cs) [] (got.0.outcomes - 1))) t got.1.1 in
+          let got = onto_more (entry_of h.states h.actions w) (read_entry h ms cs) t (sym (ap (λ b. cond b ends (onto (entry_of h.states h.actions w) (read_entry h ms cs))) no15) ∙ e) in
+          let rising = check_more (leb (length cs) (place_of h got.0)) NotRising (more (moving h ms (padded (place_of h got.0) cs) [] (got.0.outcomes - 1))) t got.1.1 in
           subst (Next (listing h ms cs) w) (same_more rising.1) (entry_next h ms cs w got.0 g got.1.0 (leb-true (length cs) (place_of h got.0) rising.0))
     ]
 word_kept (moving h ms cs mv due) t w g e =
-    let got = onto-more (move_of h.states w) (read_move h ms cs mv due) t e in
-    let free = check-more (not (taken got.0.target mv)) NotRising (moved h ms cs (mv ++ (got.0 ∷ [])) due) t got.1.1 in
+    let got = onto_more (move_of h.states w) (read_move h ms cs mv due) t e in
+    let free = check_more (not (taken got.0.target mv)) NotRising (moved h ms cs (mv ++ (got.0 ∷ [])) due) t got.1.1 in
     move_next h ms cs mv due w got.0 t g got.1.0 (not-true (taken got.0.target mv) free.0) free.1
 
 pub more_is_no_end : {t : Draft} → more t ≡ ends → ⊥
 more_is_no_end e = let z : ◌≡◌ {A = ℕ} 0 1 = cc in omega arith
 
 moved_no_end : (h : Head) (ms : List Mark) (cs : List (List Move)) (mv : List Move) (due : ℕ) → moved h ms cs mv due ≡ ends → ⊥
-moved_no_end h ms cs mv zero e = more_is_no_end (check-ends (eqb (total mv) 8) WrongTotal (more (listing h ms (cs ++ (mv ∷ [])))) e).1
+moved_no_end h ms cs mv zero e = more_is_no_end (check_ends (eqb (total mv) 8) WrongTotal (more (listing h ms (cs ++ (mv ∷ [])))) e).1
 moved_no_end h ms cs mv (suc due) e = more_is_no_end e
 
 -- only an end word ends
 pub end_word_reads : (d : Draft) (w : ℕ) → read_word d w ≡ ends → kind w ≡ 15
 unfolding read_word
-end_word_reads fresh w e = absurd (more_is_no_end (onto-ends (head_of w) (λ h. more (marking h [] None)) e).1.1)
-end_word_reads (marking h ms None) w e = absurd (more_is_no_end (onto-ends (mask_of h.labels w) (λ m. more (marking h ms (Some m))) e).1.1)
-end_word_reads (marking h ms (Some m)) w e = absurd (more_is_no_end (onto-ends (reward_of w) (λ r. more (marked h (ms ++ (record { mask = m; raised = r.raised; origin = r.origin } ∷ [])))) e).1.1)
+end_word_reads fresh w e = absurd (more_is_no_end (onto_ends (head_of w) (λ h. more (marking h [] None)) e).1.1)
+end_word_reads (marking h ms None) w e = absurd (more_is_no_end (onto_ends (mask_of h.labels w) (λ m. more (marking h ms (Some m))) e).1.1)
+end_word_reads (marking h ms (Some m)) w e = absurd (more_is_no_end (onto_ends (reward_of w) (λ r. more (marked h (ms ++ (record { mask = m; raised = r.raised; origin = r.origin } ∷ [])))) e).1.1)
 end_word_reads (listing h ms cs) w e =
     elim (cases_Bool (eqb (kind w) 15)) [
       | inl is ↦ eqb-true (kind w) 15 is
       | inr no15 ↦
-          let got = onto-ends (entry_of h.states h.actions w) (read_entry h ms cs) (sym (ap (λ b. cond b ends (onto (entry_of h.states h.actions w) (read_entry h ms cs))) no15) ∙ e) in
-          absurd (more_is_no_end (check-ends (leb (length cs) (place_of h got.0)) NotRising (more (moving h ms (padded (place_of h got.0) cs) [] (got.0.outcomes - 1))) got.1.1).1)
+          let got = onto_ends (entry_of h.states h.actions w) (read_entry h ms cs) (sym (ap (λ b. cond b ends (onto (entry_of h.states h.actions w) (read_entry h ms cs))) no15) ∙ e) in
+          absurd (more_is_no_end (check_ends (leb (length cs) (place_of h got.0)) NotRising (more (moving h ms (padded (place_of h got.0) cs) [] (got.0.outcomes - 1))) got.1.1).1)
     ]
 end_word_reads (moving h ms cs mv due) w e =
-    let got = onto-ends (move_of h.states w) (read_move h ms cs mv due) e in
-    absurd (moved_no_end h ms cs (mv ++ (got.0 ∷ [])) due (check-ends (not (taken got.0.target mv)) NotRising (moved h ms cs (mv ++ (got.0 ∷ [])) due) got.1.1).1)
+    let got = onto_ends (move_of h.states w) (read_move h ms cs mv due) e in
+    absurd (moved_no_end h ms cs (mv ++ (got.0 ∷ [])) due (check_ends (not (taken got.0.target mv)) NotRising (moved h ms cs (mv ++ (got.0 ∷ [])) due) got.1.1).1)
 
-same-book : {x y : Site} → ◌≡◌ {A = Result Site Refusal} (Ok x) (Ok y) → x ≡ y
-same-book e = cc
+same_book : {x y : Site} → ◌≡◌ {A = Result Site Refusal} (Ok x) (Ok y) → x ≡ y
+same_book e = cc
 
-valid-from : (h : Head) (ms : List Mark) (cs : List (List Move)) → GoodHead h → length ms ≡ h.states → all (good_mark h.labels) ms ≡ true → all (good_cell h.states) cs ≡ true → length cs ≤ h.states * h.actions
+valid_from : (h : Head) (ms : List Mark) (cs : List (List Move)) → GoodHead h → length ms ≡ h.states → all (good_mark h.labels) ms ≡ true → all (good_cell h.states) cs ≡ true → length cs ≤ h.states * h.actions
     → waits h.actions h.states (padded (h.states * h.actions) cs) ≡ true → valid (book_of h ms cs) ≡ true
-valid-from h ms cs g long marks cells few w =
+valid_from h ms cs g long marks cells few w =
     let k = padded (h.states * h.actions) cs in
     let same : (n : ℕ) → n ≡ h.states → (within 1 4096 n && (leb h.labels 24 && (within 1 8 h.actions && (all (good_mark h.labels) ms && (eqb (length (padded (h.states * h.actions) cs)) (n * h.actions) && (all (good_cell n) (padded (h.states * h.actions) cs) && waits h.actions n (padded (h.states * h.actions) cs))))))) ≡ true =
     λ n e. subst (λ n. (within 1 4096 n && (leb h.labels 24 && (within 1 8 h.actions && (all (good_mark h.labels) ms && (eqb (length (padded (h.states * h.actions) cs)) (n * h.actions) && (all (good_cell n) (padded (h.states * h.actions) cs) && waits h.actions n (padded (h.states * h.actions) cs))))))) ≡ true) (sym e)
-    (and_from _ _ (within-from 1 4096 h.states g.0 g.1)
+    (and_from _ _ (within_from 1 4096 h.states g.0 g.1)
     (and_from _ _ (le-leb h.labels 24 g.2)
-    (and_from _ _ (within-from 1 8 h.actions g.3 g.4)
+    (and_from _ _ (within_from 1 8 h.actions g.3 g.4)
     (and_from _ _ marks
     (and_from _ _ (eq-eqb _ _ (padded-length (h.states * h.actions) cs few))
     (and_from _ _ (all_append (good_cell h.states) cs (replicate (h.states * h.actions - length cs) []) cells (all_replicate (good_cell h.states) (h.states * h.actions - length cs) [] refl))
@@ -285,23 +285,23 @@ abbrev pub choice : Bool → Site → Result Site Refusal
 choice t b = cond t (Ok b) (Err NoWait)
 
 -- a whole book is that of the table, and every state waits
-pub whole-book : (h : Head) (ms : List Mark) (cs : List (List Move)) (b : Site) → whole_book (listing h ms cs) ≡ Ok b → (waits h.actions h.states (padded (h.states * h.actions) cs) ≡ true) × (book_of h ms cs ≡ b)
+pub whole_book_is : (h : Head) (ms : List Mark) (cs : List (List Move)) (b : Site) → whole_book (listing h ms cs) ≡ Ok b → (waits h.actions h.states (padded (h.states * h.actions) cs) ≡ true) × (book_of h ms cs ≡ b)
 unfolding whole_book
-whole-book h ms cs b e =
+whole_book_is h ms cs b e =
     elim (cases_Bool (waits h.actions h.states (padded (h.states * h.actions) cs))) [
       | inr never ↦ let z : ◌≡◌ {A = ℕ} 0 1 = cc (ap (λ t. choice t (book_of h ms cs)) never, e) in absurd (omega arith)
-      | inl w ↦ (w, same-book (sym (ap (λ t. choice t (book_of h ms cs)) w) ∙ e))
+      | inl w ↦ (w, same_book (sym (ap (λ t. choice t (book_of h ms cs)) w) ∙ e))
     ]
 
 -- a whole book is valid, and its words are those that were read
-pub book-kept : (d : Draft) (b : Site) → Good d → whole_book d ≡ Ok b → (valid b ≡ true) × (written d ≡ site_words b)
+pub book_kept : (d : Draft) (b : Site) → Good d → whole_book d ≡ Ok b → (valid b ≡ true) × (written d ≡ site_words b)
 unfolding whole_book
-book-kept fresh b g e = let z : ◌≡◌ {A = ℕ} 0 1 = cc in absurd (omega arith)
-book-kept (marking h ms o) b g e = let z : ◌≡◌ {A = ℕ} 0 1 = cc in absurd (omega arith)
-book-kept (moving h ms cs mv due) b g e = let z : ◌≡◌ {A = ℕ} 0 1 = cc in absurd (omega arith)
-book-kept (listing h ms cs) b g e =
-    let told = whole-book h ms cs b e in
+book_kept fresh b g e = let z : ◌≡◌ {A = ℕ} 0 1 = cc in absurd (omega arith)
+book_kept (marking h ms o) b g e = let z : ◌≡◌ {A = ℕ} 0 1 = cc in absurd (omega arith)
+book_kept (moving h ms cs mv due) b g e = let z : ◌≡◌ {A = ℕ} 0 1 = cc in absurd (omega arith)
+book_kept (listing h ms cs) b g e =
+    let told = whole_book_is h ms cs b e in
     subst (λ b. (valid b ≡ true) × (written (listing h ms cs) ≡ site_words b)) told.1 (
-      valid-from h ms cs g.0.0 g.1.0 g.0.1 g.1.1.0 g.1.1.1 told.0,
+      valid_from h ms cs g.0.0 g.1.0 g.0.1 g.1.1.0 g.1.1.1 told.0,
       sym (λ i. word_of_head (g.1.0 i) h.labels h.actions ∷ (mark_words ms ++ cell_words_padded h.actions (h.states * h.actions) cs i)),
     )

@@ -1,14 +1,14 @@
--- Each word of a site book, read and written. For others: of a word that reads well, `head-reads` and the like say that it is
+-- Each word of a site book, read and written. For others: of a word that reads well, `head_reads` and the like say that it is
 -- the one that is written for what was read, and what ranges that lies in; `head_fields` and the like say its kind and fields;
--- `head-written` and the like say that what is read from a word is what it was written from.
+-- `head_written` and the like say that what is read from a word is what it was written from.
 use Rattle.std.proofs.Common.{◌≡◌, ℕ, ◌+◌, ◌*◌, ◌^◌, ◌<◌, ◌≤◌, Bool, true, ◌&&◌, eqb, ltb, leb, Ok, ap, ◌∙◌, subst, arith, pow_mono}
 use Rattle.std.proofs.lemmas.Bool.{and_parts, and_from, eqb-true, eq-eqb, ltb-true, lt-ltb, leb-true, le-leb}
 use Rattle.refusal.specs.declared.Refusal.TheVariants.{WrongKind, UnusedBit, OutOfRange}
 use Rattle.words.specs.Words.{field, kind}
 use Rattle.words.specs.Format.{require}
 use Rattle.words.specs.Tests.{within}
-use Rattle.words.proofs.Fields.{field_and_above, field_below, field_put, kind-put}
-use Rattle.words.proofs.Tests.{require_ok, require-passed, within-parts, within-from}
+use Rattle.words.proofs.Fields.{field_and_above, field_below, field_put, kind_put}
+use Rattle.words.proofs.Tests.{require_ok, require_passed, within_parts, within_from}
 use Rattle.sitelayout.specs.declared.Entry.{Entry}
 use Rattle.sitelayout.specs.declared.Head.{Head}
 use Rattle.sitelayout.specs.declared.Move.{Move}
@@ -26,9 +26,9 @@ three_passed k n unused ranges x y e =
 
 three_pass : {X : Type 0} (kinds unused ranges : Bool) (x y : X) → kinds ≡ true → unused ≡ true → ranges ≡ true → x ≡ y → require kinds WrongKind (require unused UnusedBit (require ranges OutOfRange (Ok x))) ≡ Ok y
 three_pass kinds unused ranges x y a b c e =
-    require-passed kinds WrongKind (require unused UnusedBit (require ranges OutOfRange (Ok x))) a
-    ∙ require-passed unused UnusedBit (require ranges OutOfRange (Ok x)) b
-    ∙ require-passed ranges OutOfRange (Ok x) c
+    require_passed kinds WrongKind (require unused UnusedBit (require ranges OutOfRange (Ok x))) a
+    ∙ require_passed unused UnusedBit (require ranges OutOfRange (Ok x)) b
+    ∙ require_passed ranges OutOfRange (Ok x) c
     ∙ ap Ok e
 
 abbrev pub GoodHead : Head → Type 0
@@ -61,26 +61,26 @@ move_fields states w m e = three_passed _ _ _ _ _ m e
 
 -- it is the word that is written for what was read
 
-pub head-reads : (w : ℕ) (h : Head) → head_of w ≡ Ok h → (w ≡ word_of_head h.states h.labels h.actions) × GoodHead h
-head-reads w h e =
+pub head_reads : (w : ℕ) (h : Head) → head_of w ≡ Ok h → (w ≡ word_of_head h.states h.labels h.actions) × GoodHead h
+head_reads w h e =
     let p = head_fields w h e in
     let t = and_parts (within 1 4096 (field w 0 13)) (leb (field w 13 5) 24 && within 1 8 (field w 18 4)) p.2 in
     let u = and_parts (leb (field w 13 5) 24) (within 1 8 (field w 18 4)) t.1 in
-    let n = within-parts 1 4096 (field w 0 13) t.0 in
+    let n = within_parts 1 4096 (field w 0 13) t.0 in
     let l = leb-true (field w 13 5) 24 u.0 in
-    let k = within-parts 1 8 (field w 18 4) u.1 in
+    let k = within_parts 1 8 (field w 18 4) u.1 in
     let is : w ≡ word_of_head (field w 0 13) (field w 13 5) (field w 18 4) =
     omega (arith, p.0, p.1, field_and_above w 0 13, field_and_above w 13 5, field_and_above w 18 4, field_and_above w 22 6) in
     subst (λ h. (w ≡ word_of_head h.states h.labels h.actions) × GoodHead h) p.3 (is, (n.0, n.1, l, k.0, k.1))
 
-pub mask-reads : (labels w m : ℕ) → mask_of labels w ≡ Ok m → (w ≡ word_of_mask m) × (m < 2 ^ labels)
-mask-reads labels w m e =
+pub mask_reads : (labels w m : ℕ) → mask_of labels w ≡ Ok m → (w ≡ word_of_mask m) × (m < 2 ^ labels)
+mask_reads labels w m e =
     let p = mask_fields labels w m e in
     let is : w ≡ word_of_mask (field w 0 24) = omega (arith, p.0, p.1, field_and_above w 0 24, field_and_above w 24 4) in
     subst (λ m. (w ≡ word_of_mask m) × (m < 2 ^ labels)) p.3 (is, ltb-true (field w 0 24) (2 ^ labels) p.2)
 
-pub reward-reads : (w : ℕ) (r : Worth) → reward_of w ≡ Ok r → (w ≡ word_of_reward r.raised r.origin) × ((r.raised ≤ 4000) × (r.origin < 4096))
-reward-reads w r e =
+pub reward_reads : (w : ℕ) (r : Worth) → reward_of w ≡ Ok r → (w ≡ word_of_reward r.raised r.origin) × ((r.raised ≤ 4000) × (r.origin < 4096))
+reward_reads w r e =
     let p = reward_fields w r e in
     let is : w ≡ word_of_reward (field w 0 12) (field w 12 12) = omega (arith, p.0, p.1, field_and_above w 0 12, field_and_above w 12 12, field_and_above w 24 4) in
     subst (λ r. (w ≡ word_of_reward r.raised r.origin) × ((r.raised ≤ 4000) × (r.origin < 4096))) p.3 (is, (leb-true (field w 0 12) 4000 p.2, field_below w 12 12))
@@ -90,7 +90,7 @@ entry_reads states actions w x e =
     let p = entry_fields states actions w x e in
     let t = and_parts (ltb (field w 0 12) states) (ltb (field w 12 3) actions && within 1 8 (field w 15 4)) p.2 in
     let u = and_parts (ltb (field w 12 3) actions) (within 1 8 (field w 15 4)) t.1 in
-    let n = within-parts 1 8 (field w 15 4) u.1 in
+    let n = within_parts 1 8 (field w 15 4) u.1 in
     let is : w ≡ word_of_entry (field w 0 12) (field w 12 3) (field w 15 4) =
     omega (arith, p.0, p.1, field_and_above w 0 12, field_and_above w 12 3, field_and_above w 15 4, field_and_above w 19 9) in
     subst (λ x. (w ≡ word_of_entry x.state x.action x.outcomes) × GoodEntry states actions x) p.3
@@ -100,46 +100,46 @@ pub move_reads : (states w : ℕ) (m : Move) → move_of states w ≡ Ok m → (
 move_reads states w m e =
     let p = move_fields states w m e in
     let t = and_parts (ltb (field w 0 12) states) (within 1 8 (field w 12 4)) p.2 in
-    let n = within-parts 1 8 (field w 12 4) t.1 in
+    let n = within_parts 1 8 (field w 12 4) t.1 in
     let is : w ≡ word_of_move (record { target = field w 0 12; weight = field w 12 4 }) =
     omega (arith, p.0, p.1, field_and_above w 0 12, field_and_above w 12 4, field_and_above w 16 12) in
     subst (λ m. (w ≡ word_of_move m) × GoodOutcome states m) p.3 (is, (ltb-true (field w 0 12) states t.0, n.0, n.1))
 
-pub head-written : (n l k : ℕ) → GoodHead (record { states = n; labels = l; actions = k }) → head_of (word_of_head n l k) ≡ Ok (record { states = n; labels = l; actions = k })
-head-written n l k g =
+pub head_written : (n l k : ℕ) → GoodHead (record { states = n; labels = l; actions = k }) → head_of (word_of_head n l k) ≡ Ok (record { states = n; labels = l; actions = k })
+head_written n l k g =
     let f0 : field (word_of_head n l k) 0 13 ≡ n = ap (λ x. field x 0 13) (omega arith) ∙ field_put 0 n (l + 2 ^ 5 * (k + 2 ^ 10)) 0 13 (omega arith) (omega (arith, g.1)) in
     let f1 : field (word_of_head n l k) 13 5 ≡ l = ap (λ x. field x 13 5) (omega arith) ∙ field_put n l (k + 2 ^ 10) 13 5 (omega (arith, g.1)) (omega (arith, g.2)) in
     let f2 : field (word_of_head n l k) 18 4 ≡ k = ap (λ x. field x 18 4) (omega arith) ∙ field_put (n + l * 2 ^ 13) k (2 ^ 6) 18 4 (omega (arith, g.1, g.2)) (omega (arith, g.4)) in
     let f3 : field (word_of_head n l k) 22 6 ≡ 0 = ap (λ x. field x 22 6) (omega arith) ∙ field_put (n + l * 2 ^ 13 + k * 2 ^ 18) 0 1 22 6 (omega (arith, g.1, g.2, g.4)) (omega arith) in
-    let kd : kind (word_of_head n l k) ≡ 1 = kind-put (n + l * 2 ^ 13 + k * 2 ^ 18) 1 (omega (arith, g.1, g.2, g.4)) in
+    let kd : kind (word_of_head n l k) ≡ 1 = kind_put (n + l * 2 ^ 13 + k * 2 ^ 18) 1 (omega (arith, g.1, g.2, g.4)) in
     three_pass (eqb (kind (word_of_head n l k)) 1) (eqb (field (word_of_head n l k) 22 6) 0) (within 1 4096 (field (word_of_head n l k) 0 13) && (leb (field (word_of_head n l k) 13 5) 24 && within 1 8 (field (word_of_head n l k) 18 4)))
     (record { states = field (word_of_head n l k) 0 13; labels = field (word_of_head n l k) 13 5; actions = field (word_of_head n l k) 18 4 }) (record { states = n; labels = l; actions = k })
     (eq-eqb (kind (word_of_head n l k)) 1 kd) (eq-eqb (field (word_of_head n l k) 22 6) 0 f3)
     (and_from (within 1 4096 (field (word_of_head n l k) 0 13)) (leb (field (word_of_head n l k) 13 5) 24 && within 1 8 (field (word_of_head n l k) 18 4))
-    (ap (within 1 4096) f0 ∙ within-from 1 4096 n g.0 g.1)
+    (ap (within 1 4096) f0 ∙ within_from 1 4096 n g.0 g.1)
     (and_from (leb (field (word_of_head n l k) 13 5) 24) (within 1 8 (field (word_of_head n l k) 18 4))
     (ap (λ x. leb x 24) f1 ∙ le-leb l 24 g.2)
-    (ap (within 1 8) f2 ∙ within-from 1 8 k g.3 g.4)))
+    (ap (within 1 8) f2 ∙ within_from 1 8 k g.3 g.4)))
     (cc (f0, f1, f2))
 
-pub mask-written : (labels m : ℕ) → m < 2 ^ labels → labels ≤ 24 → mask_of labels (word_of_mask m) ≡ Ok m
-mask-written labels m h few =
+pub mask_written : (labels m : ℕ) → m < 2 ^ labels → labels ≤ 24 → mask_of labels (word_of_mask m) ≡ Ok m
+mask_written labels m h few =
     let top : 2 ^ labels ≤ 2 ^ 24 = pow_mono few in
     let low : m < 2 ^ 24 = omega arith in
     let f0 : field (word_of_mask m) 0 24 ≡ m = ap (λ x. field x 0 24) (omega arith) ∙ field_put 0 m (2 ^ 5) 0 24 (omega arith) low in
     let f1 : field (word_of_mask m) 24 4 ≡ 0 = ap (λ x. field x 24 4) (omega arith) ∙ field_put m 0 2 24 4 low (omega arith) in
-    let kd : kind (word_of_mask m) ≡ 2 = kind-put m 2 (omega arith) in
+    let kd : kind (word_of_mask m) ≡ 2 = kind_put m 2 (omega arith) in
     three_pass (eqb (kind (word_of_mask m)) 2) (eqb (field (word_of_mask m) 24 4) 0) (ltb (field (word_of_mask m) 0 24) (2 ^ labels)) (field (word_of_mask m) 0 24) m
     (eq-eqb (kind (word_of_mask m)) 2 kd) (eq-eqb (field (word_of_mask m) 24 4) 0 f1)
     (ap (λ x. ltb x (2 ^ labels)) f0 ∙ lt-ltb m (2 ^ labels) h)
     f0
 
-pub reward-written : (raised origin : ℕ) → raised ≤ 4000 → origin < 4096 → reward_of (word_of_reward raised origin) ≡ Ok (record { raised = raised; origin = origin })
-reward-written raised origin h k =
+pub reward_written : (raised origin : ℕ) → raised ≤ 4000 → origin < 4096 → reward_of (word_of_reward raised origin) ≡ Ok (record { raised = raised; origin = origin })
+reward_written raised origin h k =
     let f0 : field (word_of_reward raised origin) 0 12 ≡ raised = ap (λ x. field x 0 12) (omega arith) ∙ field_put 0 raised (origin + 2 ^ 12 * 2 ^ 4 * 3) 0 12 (omega arith) (omega arith) in
     let f1 : field (word_of_reward raised origin) 12 12 ≡ origin = ap (λ x. field x 12 12) (omega arith) ∙ field_put raised origin (2 ^ 4 * 3) 12 12 (omega arith) k in
     let f2 : field (word_of_reward raised origin) 24 4 ≡ 0 = ap (λ x. field x 24 4) (omega arith) ∙ field_put (raised + origin * 2 ^ 12) 0 3 24 4 (omega arith) (omega arith) in
-    let kd : kind (word_of_reward raised origin) ≡ 3 = kind-put (raised + origin * 2 ^ 12) 3 (omega arith) in
+    let kd : kind (word_of_reward raised origin) ≡ 3 = kind_put (raised + origin * 2 ^ 12) 3 (omega arith) in
     three_pass (eqb (kind (word_of_reward raised origin)) 3) (eqb (field (word_of_reward raised origin) 24 4) 0) (leb (field (word_of_reward raised origin) 0 12) 4000)
     (record { raised = field (word_of_reward raised origin) 0 12; origin = field (word_of_reward raised origin) 12 12 }) (record { raised = raised; origin = origin })
     (eq-eqb (kind (word_of_reward raised origin)) 3 kd) (eq-eqb (field (word_of_reward raised origin) 24 4) 0 f2)
@@ -152,7 +152,7 @@ entry_written states actions s a n hs ha g =
     let f1 : field (word_of_entry s a n) 12 3 ≡ a = ap (λ x. field x 12 3) (omega arith) ∙ field_put s a (n + 2 ^ 15) 12 3 (omega (arith, g.0)) (omega (arith, g.1)) in
     let f2 : field (word_of_entry s a n) 15 4 ≡ n = ap (λ x. field x 15 4) (omega arith) ∙ field_put (s + a * 2 ^ 12) n (2 ^ 11) 15 4 (omega (arith, g.0, g.1)) (omega (arith, g.3)) in
     let f3 : field (word_of_entry s a n) 19 9 ≡ 0 = ap (λ x. field x 19 9) (omega arith) ∙ field_put (s + a * 2 ^ 12 + n * 2 ^ 15) 0 4 19 9 (omega (arith, g.0, g.1, g.3)) (omega arith) in
-    let kd : kind (word_of_entry s a n) ≡ 4 = kind-put (s + a * 2 ^ 12 + n * 2 ^ 15) 4 (omega (arith, g.0, g.1, g.3)) in
+    let kd : kind (word_of_entry s a n) ≡ 4 = kind_put (s + a * 2 ^ 12 + n * 2 ^ 15) 4 (omega (arith, g.0, g.1, g.3)) in
     three_pass (eqb (kind (word_of_entry s a n)) 4) (eqb (field (word_of_entry s a n) 19 9) 0) (ltb (field (word_of_entry s a n) 0 12) states && (ltb (field (word_of_entry s a n) 12 3) actions && within 1 8 (field (word_of_entry s a n) 15 4)))
     (record { state = field (word_of_entry s a n) 0 12; action = field (word_of_entry s a n) 12 3; outcomes = field (word_of_entry s a n) 15 4 }) (record { state = s; action = a; outcomes = n })
     (eq-eqb (kind (word_of_entry s a n)) 4 kd) (eq-eqb (field (word_of_entry s a n) 19 9) 0 f3)
@@ -160,7 +160,7 @@ entry_written states actions s a n hs ha g =
     (ap (λ x. ltb x states) f0 ∙ lt-ltb s states g.0)
     (and_from (ltb (field (word_of_entry s a n) 12 3) actions) (within 1 8 (field (word_of_entry s a n) 15 4))
     (ap (λ x. ltb x actions) f1 ∙ lt-ltb a actions g.1)
-    (ap (within 1 8) f2 ∙ within-from 1 8 n g.2 g.3)))
+    (ap (within 1 8) f2 ∙ within_from 1 8 n g.2 g.3)))
     (cc (f0, f1, f2))
 
 pub move_written : (states : ℕ) (m : Move) → states ≤ 4096 → GoodOutcome states m → move_of states (word_of_move m) ≡ Ok m
@@ -168,11 +168,11 @@ move_written states m hs g =
     let f0 : field (word_of_move m) 0 12 ≡ m.target = ap (λ x. field x 0 12) (omega arith) ∙ field_put 0 m.target (m.weight + 2 ^ 16 * 5) 0 12 (omega arith) (omega (arith, g.0)) in
     let f1 : field (word_of_move m) 12 4 ≡ m.weight = ap (λ x. field x 12 4) (omega arith) ∙ field_put m.target m.weight (2 ^ 12 * 5) 12 4 (omega (arith, g.0)) (omega (arith, g.2)) in
     let f2 : field (word_of_move m) 16 12 ≡ 0 = ap (λ x. field x 16 12) (omega arith) ∙ field_put (m.target + m.weight * 2 ^ 12) 0 5 16 12 (omega (arith, g.0, g.2)) (omega arith) in
-    let kd : kind (word_of_move m) ≡ 5 = kind-put (m.target + m.weight * 2 ^ 12) 5 (omega (arith, g.0, g.2)) in
+    let kd : kind (word_of_move m) ≡ 5 = kind_put (m.target + m.weight * 2 ^ 12) 5 (omega (arith, g.0, g.2)) in
     three_pass (eqb (kind (word_of_move m)) 5) (eqb (field (word_of_move m) 16 12) 0) (ltb (field (word_of_move m) 0 12) states && within 1 8 (field (word_of_move m) 12 4))
     (record { target = field (word_of_move m) 0 12; weight = field (word_of_move m) 12 4 }) m
     (eq-eqb (kind (word_of_move m)) 5 kd) (eq-eqb (field (word_of_move m) 16 12) 0 f2)
     (and_from (ltb (field (word_of_move m) 0 12) states) (within 1 8 (field (word_of_move m) 12 4))
     (ap (λ x. ltb x states) f0 ∙ lt-ltb m.target states g.0)
-    (ap (within 1 8) f1 ∙ within-from 1 8 m.weight g.1 g.2))
+    (ap (within 1 8) f1 ∙ within_from 1 8 m.weight g.1 g.2))
     (λ i. record { target = f0 i; weight = f1 i })

@@ -1,9 +1,9 @@
--- What a valid site book has, by name. For others: `validly` of the whole book, `cell-good` of the outcomes of an action,
+-- What a valid site book has, by name. For others: `validly` of the whole book, `cell_good` of the outcomes of an action,
 -- `mark_parts` of a state, `move_parts` of an outcome.
 use Rattle.std.proofs.Common.{◌≡◌, ℕ, ◌*◌, ◌^◌, ◌<◌, ◌≤◌, true, false, ◌&&◌, eqb, ltb, leb, List, [], ◌∷◌, length, refl, arith}
 use Rattle.std.proofs.lemmas.Bool.{and_parts, leb-true, ltb-true, eqb-true, true≢false}
 use Rattle.words.specs.Tests.{all, within, none}
-use Rattle.words.proofs.Tests.{within-parts}
+use Rattle.words.proofs.Tests.{within_parts}
 use Rattle.sitelayout.specs.declared.Mark.{Mark}
 use Rattle.sitelayout.specs.declared.Move.{Move}
 use Rattle.sitelayout.specs.Site.{Site, apart, total, good_mark, good_move, good_cell, waits, valid}
@@ -18,7 +18,7 @@ mark_parts labels m e =
 pub move_parts : (n : ℕ) (m : Move) → good_move n m ≡ true → GoodOutcome n m
 move_parts n m h =
     let parts = and_parts (ltb m.target n) (within 1 8 m.weight) h in
-    let w = within-parts 1 8 m.weight parts.1 in
+    let w = within_parts 1 8 m.weight parts.1 in
     (ltb-true m.target n parts.0, w.0, w.1)
 
 pub record CellGood (states : ℕ) (c : List Move) : Type 0 where
@@ -27,9 +27,9 @@ pub record CellGood (states : ℕ) (c : List Move) : Type 0 where
   pub distinct : apart c ≡ true
   pub whole : none c ≡ false → total c ≡ 8
 
-pub cell-good : (states : ℕ) (c : List Move) → good_cell states c ≡ true → CellGood states c
-cell-good states [] e = record { few = omega arith; moves = refl; distinct = refl; whole = λ h. absurd (true≢false h) }
-cell-good states (m ∷ ms) e =
+pub cell_good : (states : ℕ) (c : List Move) → good_cell states c ≡ true → CellGood states c
+cell_good states [] e = record { few = omega arith; moves = refl; distinct = refl; whole = λ h. absurd (true≢false h) }
+cell_good states (m ∷ ms) e =
     let p1 = and_parts (leb (length (m ∷ ms)) 8) _ e in
     let p2 = and_parts (all (good_move states) (m ∷ ms)) _ p1.1 in
     let p3 = and_parts (apart (m ∷ ms)) (eqb (total (m ∷ ms)) 8) p2.1 in
@@ -55,6 +55,6 @@ validly b e =
     let f = and_parts _ _ d.1 in
     let t = and_parts _ _ f.1 in
     let u = and_parts _ _ t.1 in
-    let n = within-parts 1 4096 (length b.marks) a.0 in
-    let k = within-parts 1 8 b.actions d.0 in
+    let n = within_parts 1 4096 (length b.marks) a.0 in
+    let k = within_parts 1 8 b.actions d.0 in
     record { some = n.0; many = n.1; labels = leb-true b.labels 24 c.0; acts = k.0; few = k.1; marks = f.0; table = eqb-true (length b.cells) (length b.marks * b.actions) t.0; cells = u.0; waiting = u.1 }

@@ -8,10 +8,10 @@ use Rattle.refusal.specs.declared.Refusal.TheVariants.{WrongTotal, NotRising}
 use Rattle.words.specs.Words.{kind, end_word}
 use Rattle.words.specs.Format.{more, ends, onto, got, reading, file, ReadsBack, Faithful}
 use Rattle.words.specs.Tests.{all}
-use Rattle.words.proofs.Reading.{places-right}
-use Rattle.words.proofs.Encoding.{Passes, passes_append, reads-file, only_encodings}
-use Rattle.words.proofs.Fields.{kind-put}
-use Rattle.words.proofs.Tests.{check-passed}
+use Rattle.words.proofs.Reading.{places_right}
+use Rattle.words.proofs.Encoding.{Passes, passes_append, reads_file, only_encodings}
+use Rattle.words.proofs.Fields.{kind_put}
+use Rattle.words.proofs.Tests.{check_passed}
 use Rattle.sitelayout.specs.declared.Entry.{Entry}
 use Rattle.sitelayout.specs.declared.Head.{Head}
 use Rattle.sitelayout.specs.declared.Mark.{Mark}
@@ -19,9 +19,9 @@ use Rattle.sitelayout.specs.declared.Move.{Move}
 use Rattle.sitelayout.specs.OneWord.{word_of_head, word_of_mask, word_of_reward, word_of_entry, word_of_move, entry_of}
 use Rattle.sitelayout.specs.Site.{Site, taken, apart, total, good_mark, good_move, good_cell, waits, valid}
 use Rattle.sitelayout.specs.Layout.{mark_words, move_words, cell_word, cell_words, site_words, fresh, marking, listing, moving, padded, marked, read_entry, moved, read_move, read_word, book_of, whole_book, site_format}
-use Rattle.sitelayout.proofs.OneWords.{GoodHead, head-written, mask-written, reward-written, entry_written, move_written}
-use Rattle.sitelayout.proofs.Account.{Good, written, word_kept, end_word_reads, book-kept, choice}
-use Rattle.sitelayout.proofs.Valid.{move_parts, mark_parts, cell-good, Validly, validly}
+use Rattle.sitelayout.proofs.OneWords.{GoodHead, head_written, mask_written, reward_written, entry_written, move_written}
+use Rattle.sitelayout.proofs.Account.{Good, written, word_kept, end_word_reads, book_kept, choice}
+use Rattle.sitelayout.proofs.Valid.{move_parts, mark_parts, cell_good, Validly, validly}
 
 -- in a list without repeats a target is not among those before it
 free_before : (before : List Move) (m : Move) (rest : List Move) → apart (before ++ (m ∷ rest)) ≡ true → taken m.target before ≡ false
@@ -41,7 +41,7 @@ module _ (h : Head) (g : GoodHead h) (ms : List Mark) where
   unfolding read_word
   move_step cs before due m one free =
       ap (λ said. onto said (read_move h ms cs before due)) (move_written h.states m g.1 (move_parts h.states m one))
-      ∙ check-passed (not (taken m.target before)) NotRising (moved h ms cs (before ++ (m ∷ [])) due) (not_from_false (taken m.target before) free)
+      ∙ check_passed (not (taken m.target before)) NotRising (moved h ms cs (before ++ (m ∷ [])) due) (not_from_false (taken m.target before) free)
 
   move_low : (m : Move) → good_move h.states m ≡ true → word_of_move m < 2 ^ 32
   move_low m one = let o = move_parts h.states m one in omega (arith, o.0, o.2, g.1)
@@ -53,7 +53,7 @@ module _ (h : Head) (g : GoodHead h) (ms : List Mark) where
       let parts = and_parts (good_move h.states m) true each in (
         listing h ms (cs ++ ((before ++ (m ∷ [])) ∷ [])),
         (
-          move_step cs before zero m parts.0 (free_before before m [] one) ∙ check-passed (eqb (total (before ++ (m ∷ []))) 8) WrongTotal (more (listing h ms (cs ++ ((before ++ (m ∷ [])) ∷ [])))) (eq-eqb (total (before ++ (m ∷ []))) 8 sum),
+          move_step cs before zero m parts.0 (free_before before m [] one) ∙ check_passed (eqb (total (before ++ (m ∷ []))) 8) WrongTotal (more (listing h ms (cs ++ ((before ++ (m ∷ [])) ∷ [])))) (eq-eqb (total (before ++ (m ∷ []))) 8 sum),
           (move_low m parts.0, refl),
         ),
       )
@@ -76,7 +76,7 @@ module _ (h : Head) (g : GoodHead h) (ms : List Mark) where
       → Passes site_format (listing h ms cs) (cell_word h.actions k (m ∷ rest)) (listing h ms (padded k cs ++ ((m ∷ rest) ∷ [])))
   unfolding read_word
   way_cell k cs m rest behind inside cell =
-      let good = cell-good h.states (m ∷ rest) cell in
+      let good = cell_good h.states (m ∷ rest) cell in
       let few = good.few in
       let acts : 0 < h.actions = g.3 in
       let col : k % h.actions < h.actions = mod-lt k acts in
@@ -85,14 +85,14 @@ module _ (h : Head) (g : GoodHead h) (ms : List Mark) where
       let entry : Entry = record { state = k / h.actions; action = k % h.actions; outcomes = length (m ∷ rest) } in
       let said = entry_written h.states h.actions (k / h.actions) (k % h.actions) (length (m ∷ rest)) g.1 g.4 (row, col, omega arith, few) in
       let word : ℕ = word_of_entry (k / h.actions) (k % h.actions) (length (m ∷ rest)) in
-      let kd : kind (word_of_entry (k / h.actions) (k % h.actions) (length (m ∷ rest))) ≡ 4 = kind-put (k / h.actions + k % h.actions * 2 ^ 12 + length (m ∷ rest) * 2 ^ 15) 4 (omega (arith, row, col, few, g.1, g.4)) in
+      let kd : kind (word_of_entry (k / h.actions) (k % h.actions) (length (m ∷ rest))) ≡ 4 = kind_put (k / h.actions + k % h.actions * 2 ^ 12 + length (m ∷ rest) * 2 ^ 15) 4 (omega (arith, row, col, few, g.1, g.4)) in
       let other : eqb (kind (word_of_entry (k / h.actions) (k % h.actions) (length (m ∷ rest)))) 15 ≡ false = ne_eqb (kind (word_of_entry (k / h.actions) (k % h.actions) (length (m ∷ rest)))) 15 (λ e. omega (arith, kd, e)) in
       let due : length (m ∷ rest) - 1 ≡ length rest = omega arith in (
         moving h ms (padded k cs) [] (length rest),
         (
           ap (λ t. cond t ends (onto (entry_of h.states h.actions (word_of_entry (k / h.actions) (k % h.actions) (length (m ∷ rest)))) (read_entry h ms cs))) other
               ∙ ap (λ s. onto s (read_entry h ms cs)) said
-              ∙ check-passed (leb (length cs) (k / h.actions * h.actions + k % h.actions)) NotRising (more (moving h ms (padded (k / h.actions * h.actions + k % h.actions) cs) [] (length (m ∷ rest) - 1))) (le-leb (length cs) (k / h.actions * h.actions + k % h.actions) (omega (arith, whole, behind)))
+              ∙ check_passed (leb (length cs) (k / h.actions * h.actions + k % h.actions)) NotRising (more (moving h ms (padded (k / h.actions * h.actions + k % h.actions) cs) [] (length (m ∷ rest) - 1))) (le-leb (length cs) (k / h.actions * h.actions + k % h.actions) (omega (arith, whole, behind)))
               ∙ (λ i. more (moving h ms (padded (whole i) cs) [] (due i))),
           (omega (arith, row, col, few, g.1, g.4), way_moves (padded k cs) [] m rest good.moves good.distinct (good.whole refl)),
         ),
@@ -101,12 +101,12 @@ module _ (h : Head) (g : GoodHead h) (ms : List Mark) where
 module _ (h : Head) (g : GoodHead h) where
   mask_step : (before : List Mark) (m : Mark) → good_mark h.labels m ≡ true → read_word (marking h before None) (word_of_mask m.mask) ≡ more (marking h before (Some m.mask))
   unfolding read_word
-  mask_step before m e = ap (λ s. onto s (λ x. more (marking h before (Some x)))) (mask-written h.labels m.mask (mark_parts h.labels m e).0 g.2)
+  mask_step before m e = ap (λ s. onto s (λ x. more (marking h before (Some x)))) (mask_written h.labels m.mask (mark_parts h.labels m e).0 g.2)
 
-  reward-step : (before : List Mark) (m : Mark) → good_mark h.labels m ≡ true → read_word (marking h before (Some m.mask)) (word_of_reward m.raised m.origin) ≡ more (marked h (before ++ (m ∷ [])))
+  reward_step : (before : List Mark) (m : Mark) → good_mark h.labels m ≡ true → read_word (marking h before (Some m.mask)) (word_of_reward m.raised m.origin) ≡ more (marked h (before ++ (m ∷ [])))
   unfolding read_word
-  reward-step before m e =
-      ap (λ s. onto s (λ r. more (marked h (before ++ (record { mask = m.mask; raised = r.raised; origin = r.origin } ∷ []))))) (reward-written m.raised m.origin (mark_parts h.labels m e).1 (mark_parts h.labels m e).2)
+  reward_step before m e =
+      ap (λ s. onto s (λ r. more (marked h (before ++ (record { mask = m.mask; raised = r.raised; origin = r.origin } ∷ []))))) (reward_written m.raised m.origin (mark_parts h.labels m e).1 (mark_parts h.labels m e).2)
 
   -- the states of a book lead to its entries
   way_marks : (before : List Mark) (m : Mark) (rest : List Mark) → all (good_mark h.labels) (m ∷ rest) ≡ true → length before + length (m ∷ rest) ≡ h.states
@@ -124,7 +124,7 @@ module _ (h : Head) (g : GoodHead h) where
             (
               listing h (before ++ (m ∷ [])) [],
               (
-                reward-step before m one ∙ ap (λ b. more (cond b (marking h (before ++ (m ∷ [])) None) (listing h (before ++ (m ∷ [])) []))) all_read,
+                reward_step before m one ∙ ap (λ b. more (cond b (marking h (before ++ (m ∷ [])) None) (listing h (before ++ (m ∷ [])) []))) all_read,
                 (omega (arith, is.1, is.2), refl),
               ),
             ),
@@ -145,7 +145,7 @@ module _ (h : Head) (g : GoodHead h) where
             (
               marking h (before ++ (m ∷ [])) None,
               (
-                reward-step before m parts.0 ∙ ap (λ b. more (cond b (marking h (before ++ (m ∷ [])) None) (listing h (before ++ (m ∷ [])) []))) some_left,
+                reward_step before m parts.0 ∙ ap (λ b. more (cond b (marking h (before ++ (m ∷ [])) None) (listing h (before ++ (m ∷ [])) []))) some_left,
                 (
                   omega (arith, is.1, is.2),
                   subst (λ l. Passes site_format (marking h (before ++ (m ∷ [])) None) (mark_words (r ∷ rest)) (listing h l [])) same
@@ -206,21 +206,21 @@ length-cells n a k [] each = omega arith
 length-cells n a k ([] ∷ cs) each = omega (arith, length-cells n a (k + 1) cs each)
 length-cells n a k ((m ∷ mv) ∷ cs) each =
     let parts = and_parts (good_cell n (m ∷ mv)) (all (good_cell n) cs) each in
-    let few = (cell-good n (m ∷ mv) parts.0).few in
+    let few = (cell_good n (m ∷ mv) parts.0).few in
     omega (arith, length-append (cell_word a k (m ∷ mv)) (cell_words a (k + 1) cs), length-moves mv, length-cells n a (k + 1) cs parts.1)
 
 end_step : (h : Head) (ms : List Mark) (cs : List (List Move)) (n : ℕ) → n < 2 ^ 28 → read_word (listing h ms cs) (end_word n) ≡ ends
 unfolding read_word
 end_step h ms cs n low =
-    ap (λ t. cond t ends (onto (entry_of h.states h.actions (end_word n)) (read_entry h ms cs))) (eq-eqb (kind (end_word n)) 15 (kind-put n 15 low))
+    ap (λ t. cond t ends (onto (entry_of h.states h.actions (end_word n)) (read_entry h ms cs))) (eq-eqb (kind (end_word n)) 15 (kind_put n 15 low))
 
 head_step : (h : Head) → GoodHead h → read_word fresh (word_of_head h.states h.labels h.actions) ≡ more (marking h [] None)
 unfolding read_word
-head_step h g = ap (λ s. onto s (λ x. more (marking x [] None))) (head-written h.states h.labels h.actions g)
+head_step h g = ap (λ s. onto s (λ x. more (marking x [] None))) (head_written h.states h.labels h.actions g)
 
-book-step : (h : Head) (ms : List Mark) (cs : List (List Move)) (b : Site) → book_of h ms cs ≡ b → waits h.actions h.states (padded (h.states * h.actions) cs) ≡ true → whole_book (listing h ms cs) ≡ Ok b
+book_step : (h : Head) (ms : List Mark) (cs : List (List Move)) (b : Site) → book_of h ms cs ≡ b → waits h.actions h.states (padded (h.states * h.actions) cs) ≡ true → whole_book (listing h ms cs) ≡ Ok b
 unfolding whole_book
-book-step h ms cs b same w = ap (λ t. choice t (book_of h ms cs)) w ∙ ap Ok same
+book_step h ms cs b same w = ap (λ t. choice t (book_of h ms cs)) w ∙ ap Ok same
 
 -- a book with its states written out
 reads_back_from : (labels actions : ℕ) (m : Mark) (rest : List Mark) (cells : List (List Move)) → Validly (record { labels = labels; actions = actions; marks = m ∷ rest; cells = cells })
@@ -244,13 +244,13 @@ reads_back_from labels actions m rest cells v =
         ),
       ),
     ) in
-    reads-file site_format (site_words (record { labels = labels; actions = actions; marks = m ∷ rest; cells = cells })) (listing (record { states = length (m ∷ rest); labels = labels; actions = actions }) (m ∷ rest) table.0) (record { labels = labels; actions = actions; marks = m ∷ rest; cells = cells })
+    reads_file site_format (site_words (record { labels = labels; actions = actions; marks = m ∷ rest; cells = cells })) (listing (record { states = length (m ∷ rest); labels = labels; actions = actions }) (m ∷ rest) table.0) (record { labels = labels; actions = actions; marks = m ∷ rest; cells = cells })
     way size (end_step (record { states = length (m ∷ rest); labels = labels; actions = actions }) (m ∷ rest) table.0 (length (site_words (record { labels = labels; actions = actions; marks = m ∷ rest; cells = cells }))) size)
-    (book-step (record { states = length (m ∷ rest); labels = labels; actions = actions }) (m ∷ rest) table.0 (record { labels = labels; actions = actions; marks = m ∷ rest; cells = cells }) (λ i. record { labels = labels; actions = actions; marks = m ∷ rest; cells = full i })
+    (book_step (record { states = length (m ∷ rest); labels = labels; actions = actions }) (m ∷ rest) table.0 (record { labels = labels; actions = actions; marks = m ∷ rest; cells = cells }) (λ i. record { labels = labels; actions = actions; marks = m ∷ rest; cells = full i })
     (ap (waits actions (length (m ∷ rest))) full ∙ v.waiting))
 
-reads-back : ReadsBack site_format (λ b. valid b ≡ true) site_words
-reads-back b e = from b.marks refl
+reads_back : ReadsBack site_format (λ b. valid b ≡ true) site_words
+reads_back b e = from b.marks refl
   where
     from : (ms : List Mark) → b.marks ≡ ms → reading site_format (file (site_words b)) ≡ got b
     from [] is = absurd (omega (arith, (validly b e).some, ap length is))
@@ -261,7 +261,7 @@ reads-back b e = from b.marks refl
 -- the three laws of the site book's layout
 pub site_faithful : Faithful site_format (λ b. valid b ≡ true) site_words
 site_faithful = record {
-  places = places-right site_format;
-  back = reads-back;
-  only = only_encodings site_format (λ b. valid b ≡ true) site_words Good written (λ s t w low. word_kept s t w) (λ s w low good. end_word_reads s w) book-kept tt refl;
+  places = places_right site_format;
+  back = reads_back;
+  only = only_encodings site_format (λ b. valid b ≡ true) site_words Good written (λ s t w low. word_kept s t w) (λ s w low good. end_word_reads s w) book_kept tt refl;
 }

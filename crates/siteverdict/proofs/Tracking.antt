@@ -1,5 +1,5 @@
 -- The state of the pass follows the book that is being read: what one word does to both. For others: `Tracks`, with
--- `tracks_room`, `a_turn`, `track_close` and `nil-length`.
+-- `tracks_room`, `a_turn`, `track_close` and `nil_length`.
 use Rattle.std.proofs.Common.{◌≡◌, ℕ, zero, suc, ◌+◌, ◌-◌, ◌*◌, ◌%◌, ◌^◌, ◌<◌, ◌≤◌, max, Bool, true, false, cond, not, ◌&&◌, ◌||◌, eqb, ltb, leb, List, [], ◌∷◌, ◌++◌, map, length, get_or, take, drop, set, replicate, Some, None, Ok, Err, Result, sym, refl, ap, ◌∙◌, subst, lt_of_mul-lt-mul_right, arith}
 use Rattle.std.proofs.lemmas.Bool.{ltb-true, ltb-false, eqb-true, eqb-false, leb-true, eq-eqb, ne_eqb, false≢true, true≢false}
 use Rattle.std.proofs.lemmas.List.{length_push, length-set, take_more_set, map_push, get_or_push, get_or_append_left}
@@ -18,7 +18,7 @@ use Rattle.sitelayout.specs.Site.{Site, taken, total, waits}
 use Rattle.sitelayout.specs.OneWord.{head_of, mask_of, reward_of, entry_of, move_of}
 use Rattle.sitelayout.specs.Layout.{Draft, fresh, marking, listing, moving, padded, marked, read_entry, moved, read_move, read_word, book_of, whole_book, site_format}
 use Rattle.sitelayout.proofs.Account.{padded-length, total-push}
-use Rattle.sitelayout.proofs.OneWords.{GoodHead, head-reads, entry_reads, move_reads}
+use Rattle.sitelayout.proofs.OneWords.{GoodHead, head_reads, entry_reads, move_reads}
 use Rattle.siteverdict.specs.declared.state.Marks.{Marks}
 use Rattle.siteverdict.specs.declared.state.Open.{Open}
 use Rattle.siteverdict.specs.declared.state.State.{State}
@@ -29,7 +29,7 @@ use Rattle.siteverdict.specs.declared.state.Turn.{Turn}
 use Rattle.siteverdict.specs.declared.state.Turn.TheVariants.{More, End, Wrong}
 use Rattle.siteverdict.specs.Counting.{size, bound_of, moves_in, has, Counted, Judges}
 use Rattle.siteverdict.specs.Steps.{told, marked_of, entered_turn, closed_of, last_turn, added_turn, step_of, close_of, Room}
-use Rattle.siteverdict.proofs.Waiting.{bound-push, moves-append, moves-filled, waits-append, waits-more, none_filled, waits-all}
+use Rattle.siteverdict.proofs.Waiting.{bound-push, moves-append, moves_filled, waits-append, waits_more, none_filled, waits_all}
 
 pub record MarksOf (m : Marks) (ms : List Mark) : Type 0 where
   pub head : GoodHead m.head
@@ -67,8 +67,8 @@ Tracks (phase.Reward m) d = (ms : List Mark) × ((k : ℕ) × ((d ≡ marking m.
 Tracks (phase.Entry t) d = (ms : List Mark) × ((cs : List (List Move)) × ((d ≡ listing t.head ms cs) × TableOf t ms cs))
 Tracks (phase.Move o) d = (ms : List Mark) × ((cs : List (List Move)) × ((mv : List Move) × ((d ≡ moving o.table.head ms cs mv o.due) × OpenOf o ms cs mv)))
 
-table-room : (t : Table) (ms : List Mark) (cs : List (List Move)) → TableOf t ms cs → (t.head.states ≤ 4096) × (t.head.actions ≤ 8) × (t.cells ≤ 32768) × (t.moves ≤ 8 * t.cells) × (t.waits ≤ 4096)
-table-room t ms cs of =
+table_room : (t : Table) (ms : List Mark) (cs : List (List Move)) → TableOf t ms cs → (t.head.states ≤ 4096) × (t.head.actions ≤ 8) × (t.cells ≤ 32768) × (t.moves ≤ 8 * t.cells) × (t.waits ≤ 4096)
+table_room t ms cs of =
     let most = mul-le t.head.states t.head.actions 4096 8 of.head.1 of.head.4 in
     (of.head.1, of.head.4, omega (arith, of.few, most), of.modest, omega (arith, of.within, of.head.1))
 
@@ -79,10 +79,10 @@ tracks_room (phase.Mask m) d h = tt
 tracks_room (phase.Reward m) d h =
     let of = h.1.1.1 in
     omega (arith, of.few, of.head.1)
-tracks_room (phase.Entry t) d h = table-room t h.0 h.1.0 h.1.1.1
+tracks_room (phase.Entry t) d h = table_room t h.0 h.1.0 h.1.1.1
 tracks_room (phase.Move o) d h =
     let of = h.1.1.1.1 in
-    (of.eight, omega (arith, of.left), omega (arith, of.left, of.light), table-room o.table h.0 h.1.0 of.table)
+    (of.eight, omega (arith, of.left), omega (arith, of.left, of.light), table_room o.table h.0 h.1.0 of.table)
 
 -- what a word does to the state is what it does to the draft
 abbrev pub Meets : Turn → Draft → Step Draft → Type 0
@@ -90,9 +90,9 @@ Meets (More s) d st = (e : Draft) × ((st ≡ more e) × Tracks s e)
 Meets (End t) d st = (st ≡ ends) × Tracks (phase.Entry t) d
 Meets (Wrong r) d st = st ≡ wrong r
 
-meets-told : {X : Type 0} (said : Result X Refusal) (d : Draft) (f : X → Turn) (g : X → Step Draft) → ((x : X) → said ≡ Ok x → Meets (f x) d (g x)) → Meets (told said f) d (onto said g)
-meets-told (Ok x) d f g h = h x refl
-meets-told (Err r) d f g h = refl
+meets_told : {X : Type 0} (said : Result X Refusal) (d : Draft) (f : X → Turn) (g : X → Step Draft) → ((x : X) → said ≡ Ok x → Meets (f x) d (g x)) → Meets (told said f) d (onto said g)
+meets_told (Ok x) d f g h = h x refl
+meets_told (Err r) d f g h = refl
 
 meets_cond : (b k : Bool) (x y : Turn) (d : Draft) (u v : Step Draft) → b ≡ k → (b ≡ true → Meets x d u) → (b ≡ false → Meets y d v) → Meets (cond b x y) d (cond k u v)
 meets_cond true true x y d u v e h g = h refl
@@ -171,7 +171,7 @@ track_entry t ms cs e w of is d =
                     bound = of.bound;
                     cells = long;
                     few = omega arith;
-                    moves = moves-filled cs (place - length cs) ∙ of.moves;
+                    moves = moves_filled cs (place - length cs) ∙ of.moves;
                     modest = omega (arith, of.modest);
                     waiting = waits-append t.head.actions t.waits cs (replicate (place - length cs) []) of.waiting;
                     next = λ _. none_filled cs (place - length cs) (t.waits * t.head.actions) of.next;
@@ -195,9 +195,9 @@ track_entry t ms cs e w of is d =
 
 -- a whole entry goes into the table
 module _ (t : Table) (ms : List Mark) (cs : List (List Move)) (c : List Move) (n : ℕ) (of : TableOf t ms cs) (room : t.cells < t.head.states * t.head.actions) (some : not (none c) ≡ true) (long : length c ≡ n) (few : n ≤ 8) where
-  closed-table : (w : ℕ) → waits t.head.actions w (cs ++ (c ∷ [])) ≡ true → (w * t.head.actions < length (cs ++ (c ∷ [])) → get_or (cs ++ (c ∷ [])) (w * t.head.actions) [] ≡ []) → w ≤ t.head.states
+  closed_table : (w : ℕ) → waits t.head.actions w (cs ++ (c ∷ [])) ≡ true → (w * t.head.actions < length (cs ++ (c ∷ [])) → get_or (cs ++ (c ∷ [])) (w * t.head.actions) [] ≡ []) → w ≤ t.head.states
       → TableOf (record { head = t.head; bound = t.bound; cells = t.cells + 1; moves = t.moves + n; waits = w }) ms (cs ++ (c ∷ []))
-  closed-table w waiting next within = record {
+  closed_table w waiting next within = record {
     head = of.head;
     read = of.read;
     bound = of.bound;
@@ -217,13 +217,13 @@ module _ (t : Table) (ms : List Mark) (cs : List (List Move)) (c : List Move) (n
       let same : length cs ≡ t.waits * t.head.actions = of.cells ∙ here in
       let offered : not (none (get_or (cs ++ (c ∷ [])) (t.waits * t.head.actions) [])) ≡ true = ap (λ (x : List Move). not (none x)) (get_or_push cs c [] (t.waits * t.head.actions) same) ∙ some in
       let up : (t.waits + 1) * t.head.actions ≡ t.waits * t.head.actions + t.head.actions = omega arith in
-      closed-table (t.waits + 1)
-      (waits-more t.head.actions t.waits (cs ++ (c ∷ [])) (waits-append t.head.actions t.waits cs (c ∷ []) of.waiting) offered)
+      closed_table (t.waits + 1)
+      (waits_more t.head.actions t.waits (cs ++ (c ∷ [])) (waits-append t.head.actions t.waits cs (c ∷ []) of.waiting) offered)
       (λ h. absurd (omega (arith, h, up, same, length_push cs c, of.head.3)))
       (let below : t.waits < t.head.states = lt_of_mul-lt-mul_right t.head.actions {m = t.waits} {n = t.head.states} (omega (arith, room, here)) in omega arith)
   closed_by false e =
       let other = eqb-false t.cells (t.waits * t.head.actions) e in
-      closed-table t.waits
+      closed_table t.waits
       (waits-append t.head.actions t.waits cs (c ∷ []) of.waiting)
       (λ h.
       let apart : t.waits * t.head.actions ≡ t.cells → ⊥ = λ same. other (sym same) in
@@ -235,9 +235,9 @@ module _ (t : Table) (ms : List Mark) (cs : List (List Move)) (c : List Move) (n
   track_closed = closed_by (eqb t.cells (t.waits * t.head.actions)) refl
 
 -- one outcome more
-has-taken : (t : ℕ) (mv : List Move) → has t (map (λ (m : Move). m.target) mv) ≡ taken t mv
-has-taken t [] = refl
-has-taken t (m ∷ mv) = ap (λ b. eqb t m.target || b) (has-taken t mv)
+has_taken : (t : ℕ) (mv : List Move) → has t (map (λ (m : Move). m.target) mv) ≡ taken t mv
+has_taken t [] = refl
+has_taken t (m ∷ mv) = ap (λ b. eqb t m.target || b) (has_taken t mv)
 
 some-push : (mv : List Move) (m : Move) → not (none (mv ++ (m ∷ []))) ≡ true
 some-push [] m = refl
@@ -297,7 +297,7 @@ module _ (o : Open) (ms : List Mark) (cs : List (List Move)) (mv : List Move) (m
   track_move : Meets (added_turn o m) d (read_move o.table.head ms cs mv o.due m)
   track_move =
       meets_not (has m.target (take o.len o.targets)) (taken m.target mv) _ _ d _ _
-      (ap (has m.target) (sym of.targets) ∙ has-taken m.target mv)
+      (ap (has m.target) (sym of.targets) ∙ has_taken m.target mv)
       (λ _. refl)
       (λ _. track_moved o.due refl)
 
@@ -306,22 +306,22 @@ pub track_step : (s : State) (d : Draft) (w : ℕ) → Tracks s d → Meets (ste
 unfolding read_word
 track_step phase.Fresh d w h =
     subst (λ x. Meets (step_of phase.Fresh w) x (read_word x w)) (sym h)
-    (meets-told (head_of w) fresh _ _ (λ x is. (marking x [] None, (refl, ([], (refl, record { head = (head-reads w x is).1; read = refl; few = (head-reads w x is).1.0; bound = refl }))))))
+    (meets_told (head_of w) fresh _ _ (λ x is. (marking x [] None, (refl, ([], (refl, record { head = (head_reads w x is).1; read = refl; few = (head_reads w x is).1.0; bound = refl }))))))
 track_step (phase.Mask m) d w h =
     subst (λ x. Meets (step_of (phase.Mask m) w) x (read_word x w)) (sym h.1.0)
-    (meets-told (mask_of m.head.labels w) (marking m.head h.0 None) _ _ (λ x is. (marking m.head h.0 (Some x), (refl, (h.0, (x, (refl, h.1.1)))))))
+    (meets_told (mask_of m.head.labels w) (marking m.head h.0 None) _ _ (λ x is. (marking m.head h.0 (Some x), (refl, (h.0, (x, (refl, h.1.1)))))))
 track_step (phase.Reward m) d w h =
     subst (λ x. Meets (step_of (phase.Reward m) w) x (read_word x w)) (sym h.1.1.0)
-    (meets-told (reward_of w) (marking m.head h.0 (Some h.1.0)) _ _ (λ x is.
+    (meets_told (reward_of w) (marking m.head h.0 (Some h.1.0)) _ _ (λ x is.
     (marked m.head (h.0 ++ (record { mask = h.1.0; raised = x.raised; origin = x.origin } ∷ [])), (refl, track_mark m h.0 (record { mask = h.1.0; raised = x.raised; origin = x.origin }) h.1.1.1))))
 track_step (phase.Entry t) d w h =
     subst (λ x. Meets (step_of (phase.Entry t) w) x (read_word x w)) (sym h.1.1.0)
     (meets_cond (eqb (kind w) 15) (eqb (kind w) 15) _ _ (listing t.head h.0 h.1.0) _ _ refl
     (λ _. (refl, (h.0, (h.1.0, (refl, h.1.1.1)))))
-    (λ _. meets-told (entry_of t.head.states t.head.actions w) (listing t.head h.0 h.1.0) _ _ (λ x is. track_entry t h.0 h.1.0 x w h.1.1.1 is (listing t.head h.0 h.1.0))))
+    (λ _. meets_told (entry_of t.head.states t.head.actions w) (listing t.head h.0 h.1.0) _ _ (λ x is. track_entry t h.0 h.1.0 x w h.1.1.1 is (listing t.head h.0 h.1.0))))
 track_step (phase.Move o) d w h =
     subst (λ x. Meets (step_of (phase.Move o) w) x (read_word x w)) (sym h.1.1.1.0)
-    (meets-told (move_of o.table.head.states w) (moving o.table.head h.0 h.1.0 h.1.1.0 o.due) _ _ (λ x is. track_move o h.0 h.1.0 h.1.1.0 x h.1.1.1.1 (move_reads o.table.head.states w x is).1.2 (moving o.table.head h.0 h.1.0 h.1.1.0 o.due)))
+    (meets_told (move_of o.table.head.states w) (moving o.table.head h.0 h.1.0 h.1.1.0 o.due) _ _ (λ x is. track_move o h.0 h.1.0 h.1.1.0 x h.1.1.1.1 (move_reads o.table.head.states w x is).1.2 (moving o.table.head h.0 h.1.0 h.1.1.0 o.due)))
 
 -- the end word
 judges_cond : (b : Bool) (x y : Result Counts Fault) (u v : Verdict Site) → Judges x u → Judges y v → Judges (cond b x y) (cond b u v)
@@ -344,14 +344,14 @@ track_close t d w p last h =
     subst (λ x. Judges (close_of t w p last) (ending (whole_book x) p w last)) (sym h.1.1.0)
     (judges_cond (eqb (w % 2 ^ 28) p && last) _ _ _ _
     (judges_closing (eqb t.waits t.head.states) (waits t.head.actions t.head.states (cs ++ replicate n [])) (record { head = t.head; moves = t.moves; bound = t.bound }) (book_of t.head ms cs) p
-    (waits-all t.head.actions t.head.states t.waits cs n of.waiting of.next of.within)
-    (record { states = sym of.read; labels = refl; actions = refl; moves = sym (moves-filled cs n ∙ of.moves); bound = sym of.bound }))
+    (waits_all t.head.actions t.head.states t.waits cs n of.waiting of.next of.within)
+    (record { states = sym of.read; labels = refl; actions = refl; moves = sym (moves_filled cs n ∙ of.moves); bound = sym of.bound }))
     refl)
 
 -- a turn of the pass
 pub a_turn : (s : State) (d : Draft) (rest next : List ℕ) (p w : ℕ) (turn : Turn) → Tracks s d → 4 ≤ length rest → w ≡ first_word rest → next ≡ drop 4 rest → turn ≡ step_of s w → Meets turn d (read_word d w) × (run site_format d p rest ≡ after site_format d p w next (read_word d w))
 a_turn s d rest next p w turn h four word left is = (subst (λ x. Meets x d (read_word d w)) (sym is) (track_step s d w h), one_turn site_format d p rest next w (read_word d w) (four, word, left) refl)
 
-pub nil-length : (bytes : List ℕ) → eqb (length bytes) 0 ≡ is_nil bytes
-nil-length [] = refl
-nil-length (b ∷ bytes) = ne_eqb (length (b ∷ bytes)) 0 (λ e. omega arith)
+pub nil_length : (bytes : List ℕ) → eqb (length bytes) 0 ≡ is_nil bytes
+nil_length [] = refl
+nil_length (b ∷ bytes) = ne_eqb (length (b ∷ bytes)) 0 (λ e. omega arith)

@@ -17,20 +17,20 @@ pub moves-append : (cs ds : List (List Move)) → moves_in (cs ++ ds) ≡ moves_
 moves-append [] ds = omega arith
 moves-append (c ∷ cs) ds = omega (arith, moves-append cs ds)
 
-pub moves-none : (n : ℕ) → moves_in (replicate n []) ≡ 0
-moves-none zero = refl
-moves-none (suc n) = omega (arith, moves-none n)
+pub moves_none : (n : ℕ) → moves_in (replicate n []) ≡ 0
+moves_none zero = refl
+moves_none (suc n) = omega (arith, moves_none n)
 
-pub moves-filled : (cs : List (List Move)) (n : ℕ) → moves_in (cs ++ replicate n []) ≡ moves_in cs
-moves-filled cs n = omega (arith, moves-append cs (replicate n []), moves-none n)
+pub moves_filled : (cs : List (List Move)) (n : ℕ) → moves_in (cs ++ replicate n []) ≡ moves_in cs
+moves_filled cs n = omega (arith, moves-append cs (replicate n []), moves_none n)
 
 none_there : (n i : ℕ) → get_or (replicate {A = List Move} n []) i [] ≡ []
 none_there zero i = refl
 none_there (suc n) zero = refl
 none_there (suc n) (suc i) = none_there n i
 
-offered-within : (cs : List (List Move)) (k : ℕ) → not (none (get_or cs k [])) ≡ true → k < length cs
-offered-within cs k e =
+offered_within : (cs : List (List Move)) (k : ℕ) → not (none (get_or cs k [])) ≡ true → k < length cs
+offered_within cs k e =
     elim (cases_lt k (length cs)) [
       | inl h ↦ h
       | inr h ↦ absurd (false≢true (sym (ap (λ (x : List Move). not (none x)) (get_or_past cs k [] h)) ∙ e))
@@ -40,11 +40,11 @@ pub waits-append : (A n : ℕ) (cs ds : List (List Move)) → waits A n cs ≡ t
 waits-append A n cs ds e =
     all_below_from n (λ s. not (none (get_or (cs ++ ds) (s * A) []))) (λ s h.
     let here : not (none (get_or cs (s * A) [])) ≡ true = all_below_at n (λ s. not (none (get_or cs (s * A) []))) s e h in
-    ap (λ (x : List Move). not (none x)) (get_or_append_left cs ds [] (s * A) (offered-within cs (s * A) here)) ∙ here)
+    ap (λ (x : List Move). not (none x)) (get_or_append_left cs ds [] (s * A) (offered_within cs (s * A) here)) ∙ here)
 
 -- one state more
-pub waits-more : (A n : ℕ) (cs : List (List Move)) → waits A n cs ≡ true → not (none (get_or cs (n * A) [])) ≡ true → waits A (n + 1) cs ≡ true
-waits-more A n cs e last =
+pub waits_more : (A n : ℕ) (cs : List (List Move)) → waits A n cs ≡ true → not (none (get_or cs (n * A) [])) ≡ true → waits A (n + 1) cs ≡ true
+waits_more A n cs e last =
     all_below_from (n + 1) (λ s. not (none (get_or cs (s * A) []))) (λ s h.
     elim (cases_eq s n) [
       | inl same ↦ ap (λ s. not (none (get_or cs (s * A) []))) same ∙ last
@@ -60,8 +60,8 @@ none_filled cs n k e =
     ]
 
 -- the whole table waits just where all states are known to
-pub waits-all : (A S w : ℕ) (cs : List (List Move)) (n : ℕ) → waits A w cs ≡ true → (w * A < length cs → get_or cs (w * A) [] ≡ []) → w ≤ S → waits A S (cs ++ replicate n []) ≡ eqb w S
-waits-all A S w cs n known next le =
+pub waits_all : (A S w : ℕ) (cs : List (List Move)) (n : ℕ) → waits A w cs ≡ true → (w * A < length cs → get_or cs (w * A) [] ≡ []) → w ≤ S → waits A S (cs ++ replicate n []) ≡ eqb w S
+waits_all A S w cs n known next le =
     elim (cases_eq w S) [
       | inl same ↦ subst (λ x. waits A x (cs ++ replicate n []) ≡ true) same (waits-append A w cs (replicate n []) known) ∙ sym (eq-eqb w S same)
       | inr other ↦

@@ -34,9 +34,9 @@ pub implies_at : (a b : Bool) → implies a b ≡ true → a ≡ true → b ≡ 
 implies_at true b h e = h
 implies_at false b h e = let z : ◌≡◌ {A = ℕ} 0 1 = cc in absurd (omega arith)
 
-pub implies-from : (a b : Bool) → (a ≡ true → b ≡ true) → implies a b ≡ true
-implies-from true b h = h refl
-implies-from false b h = refl
+pub implies_from : (a b : Bool) → (a ≡ true → b ≡ true) → implies a b ≡ true
+implies_from true b h = h refl
+implies_from false b h = refl
 
 -- both directions at once, formula by formula
 pub plain_truth : PlainTruth
@@ -81,7 +81,7 @@ plain_truth (since a b) τ i = (
   λ h.
       some_to_from i (λ j. holds b τ j && all_to i (λ m. implies (ltb j m) (holds a τ m))) h.0 h.1.0
       (and_from (holds b τ h.0) (all_to i (λ m. implies (ltb h.0 m) (holds a τ m))) ((plain_truth b τ h.0).1 h.1.1.0)
-      (all_to_from i (λ m. implies (ltb h.0 m) (holds a τ m)) (λ m le. implies-from (ltb h.0 m) (holds a τ m) (λ late. (plain_truth a τ m).1 (h.1.1.1 m (ltb-true h.0 m late) le))))),
+      (all_to_from i (λ m. implies (ltb h.0 m) (holds a τ m)) (λ m le. implies_from (ltb h.0 m) (holds a τ m) (λ late. (plain_truth a τ m).1 (h.1.1.1 m (ltb-true h.0 m late) le))))),
 )
 plain_truth (always a) τ i = (
   λ h j le. (plain_truth a τ j).0 (all_to_at i (λ j. holds a τ j) j h le),

@@ -38,29 +38,29 @@ pub previous_next : (a : Formula) (τ : Trace) (i : ℕ) → holds (previously a
 unfolding holds
 previous_next a τ i = refl
 
-pub always-first : (a : Formula) (τ : Trace) → holds (always a) τ zero ≡ holds a τ zero
+pub always_first : (a : Formula) (τ : Trace) → holds (always a) τ zero ≡ holds a τ zero
 unfolding holds
-always-first a τ = refl
+always_first a τ = refl
 
-pub always-next : (a : Formula) (τ : Trace) (i : ℕ) → holds (always a) τ (suc i) ≡ (holds (always a) τ i && holds a τ (suc i))
+pub always_next : (a : Formula) (τ : Trace) (i : ℕ) → holds (always a) τ (suc i) ≡ (holds (always a) τ i && holds a τ (suc i))
 unfolding holds
-always-next a τ i = refl
+always_next a τ i = refl
 
-pub sometime-first : (a : Formula) (τ : Trace) → holds (sometime a) τ zero ≡ holds a τ zero
+pub sometime_first : (a : Formula) (τ : Trace) → holds (sometime a) τ zero ≡ holds a τ zero
 unfolding holds
-sometime-first a τ = refl
+sometime_first a τ = refl
 
-pub sometime-next : (a : Formula) (τ : Trace) (i : ℕ) → holds (sometime a) τ (suc i) ≡ (holds (sometime a) τ i || holds a τ (suc i))
+pub sometime_next : (a : Formula) (τ : Trace) (i : ℕ) → holds (sometime a) τ (suc i) ≡ (holds (sometime a) τ i || holds a τ (suc i))
 unfolding holds
-sometime-next a τ i = refl
+sometime_next a τ i = refl
 
 and_true : (b : Bool) → (b && true) ≡ b
 and_true true = refl
 and_true false = refl
 
-pub since-first : (a b : Formula) (τ : Trace) → holds (since a b) τ zero ≡ holds b τ zero
+pub since_first : (a b : Formula) (τ : Trace) → holds (since a b) τ zero ≡ holds b τ zero
 unfolding holds
-since-first a b τ = and_true (holds b τ zero)
+since_first a b τ = and_true (holds b τ zero)
 
 -- the left side, told for one position more
 and_shift : (x y z : Bool) → (x && (y && z)) ≡ (z && (x && y))
@@ -84,9 +84,9 @@ past_true : (i n : ℕ) (a : Formula) (τ : Trace) → i ≤ n → all_to i (λ 
 past_true zero n a τ le = ap (λ b. implies b (holds a τ zero)) (le-ltb n zero (omega arith))
 past_true (suc i) n a τ le = λ k. past_true i n a τ (omega arith) k && ap (λ b. implies b (holds a τ (suc i))) (le-ltb n (suc i) le) k
 
-pub since-next : (a b : Formula) (τ : Trace) (i : ℕ) → holds (since a b) τ (suc i) ≡ ((holds a τ (suc i) && holds (since a b) τ i) || holds b τ (suc i))
+pub since_next : (a b : Formula) (τ : Trace) (i : ℕ) → holds (since a b) τ (suc i) ≡ ((holds a τ (suc i) && holds (since a b) τ i) || holds b τ (suc i))
 unfolding holds
-since-next a b τ i =
+since_next a b τ i =
     let earlier = some_to_same i (λ j. holds b τ j && (all_to i (λ m. implies (ltb j m) (holds a τ m)) && implies (ltb j (suc i)) (holds a τ (suc i)))) (λ j. holds a τ (suc i) && (holds b τ j && all_to i (λ m. implies (ltb j m) (holds a τ m))))
     (λ j le. ap (λ t. holds b τ j && (all_to i (λ m. implies (ltb j m) (holds a τ m)) && implies t (holds a τ (suc i)))) (lt-ltb j (suc i) (omega arith)) ∙ and_shift (holds b τ j) (all_to i (λ m. implies (ltb j m) (holds a τ m))) (holds a τ (suc i))) in
     let here : (holds b τ (suc i) && all_to (suc i) (λ m. implies (ltb (suc i) m) (holds a τ m))) ≡ holds b τ (suc i) =

@@ -39,7 +39,7 @@ module _ (k : ℕ) (v : ℤ) (n : ℕ) (r : ℤ) (weighs : n ≡ min k 8) (worth
     pub code_sum_fits : SFits w64 (back s +ℤ back (to_z w64 n *ℤ back r))
     code_sum_fits = rw sum_is (sum_fits k x v)
 
-    pub code-joins : (out : ℤ) → out ≡ held (back (back s +ℤ back (to_z w64 n *ℤ back r))) → back out ≡ mean.join x k v
-    code-joins out e =
+    pub code_joins : (out : ℤ) → out ≡ held (back (back s +ℤ back (to_z w64 n *ℤ back r))) → back out ≡ mean.join x k v
+    code_joins out e =
         rw (e, sum_is, to_z-of_z w64 (held x +ℤ (pos (min k 8) *ℤ held v)) (sum_fits k x v))
         (held_back (held x +ℤ (pos (min k 8) *ℤ held v)))

@@ -16,22 +16,22 @@ passes (x ∷ xs) = leb x 256 && (follows x xs && passes xs)
 rest : (x : ℕ) (xs : List ℕ) → passes (x ∷ xs) ≡ true → (follows x xs ≡ true) × (passes xs ≡ true)
 rest x xs t = and_parts (follows x xs) (passes xs) (and_parts (leb x 256) (follows x xs && passes xs) t).1
 
-passes-small : (xs : List ℕ) → passes xs ≡ true → (i : ℕ) → get_or xs i 0 ≤ 256
-passes-small [] t i = omega arith
-passes-small (x ∷ xs) t zero = leb-true x 256 (and_parts (leb x 256) (follows x xs && passes xs) t).0
-passes-small (x ∷ xs) t (suc i) = passes-small xs (rest x xs t).1 i
+passes_small : (xs : List ℕ) → passes xs ≡ true → (i : ℕ) → get_or xs i 0 ≤ 256
+passes_small [] t i = omega arith
+passes_small (x ∷ xs) t zero = leb-true x 256 (and_parts (leb x 256) (follows x xs && passes xs) t).0
+passes_small (x ∷ xs) t (suc i) = passes_small xs (rest x xs t).1 i
 
-passes-rule : (xs : List ℕ) → passes xs ≡ true → (i : ℕ) → suc i < length xs → get_or xs (suc i) 0 ≡ 15 * get_or xs i 0 / 16
-passes-rule [] t i h = absurd (omega arith)
-passes-rule (x ∷ []) t i h = absurd (omega arith)
-passes-rule (x ∷ (y ∷ ys)) t zero h = eqb-true y (15 * x / 16) (rest x (y ∷ ys) t).0
-passes-rule (x ∷ (y ∷ ys)) t (suc i) h = passes-rule (y ∷ ys) (rest x (y ∷ ys) t).1 i (omega arith)
+passes_rule : (xs : List ℕ) → passes xs ≡ true → (i : ℕ) → suc i < length xs → get_or xs (suc i) 0 ≡ 15 * get_or xs i 0 / 16
+passes_rule [] t i h = absurd (omega arith)
+passes_rule (x ∷ []) t i h = absurd (omega arith)
+passes_rule (x ∷ (y ∷ ys)) t zero h = eqb-true y (15 * x / 16) (rest x (y ∷ ys) t).0
+passes_rule (x ∷ (y ∷ ys)) t (suc i) h = passes_rule (y ∷ ys) (rest x (y ∷ ys) t).1 i (omega arith)
 
 pub discounts_ruled : Discounted discounts
 discounts_ruled = record {
   slots = refl;
   first = refl;
-  rule = λ i h. rw (add-one i) (passes-rule discounts refl i (omega arith));
+  rule = λ i h. rw (add-one i) (passes_rule discounts refl i (omega arith));
   last = refl;
-  bound = passes-small discounts refl;
+  bound = passes_small discounts refl;
 }

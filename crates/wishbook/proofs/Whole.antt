@@ -57,43 +57,43 @@ merged_tables {nodes} {nodes'} {numbers} {numbers'} some ns n e w =
     let told = subst (λ l. Written l nodes nodes' numbers numbers' n) e w in
     (told.nodes_are, told.numbers_are, told.count)
 
-pub renamed-table : (ws vs : List Wish) (ks numbers : List ℕ) (out : List Wish) (n : ℕ) → ws ≡ vs → ks ≡ numbers → length vs ≡ n → take (length ws) out ≡ map (renamed ks) ws → take n out ≡ map (renamed numbers) vs
-renamed-table ws vs ks numbers out n a b long e =
+pub renamed_table : (ws vs : List Wish) (ks numbers : List ℕ) (out : List Wish) (n : ℕ) → ws ≡ vs → ks ≡ numbers → length vs ≡ n → take (length ws) out ≡ map (renamed ks) ws → take n out ≡ map (renamed numbers) vs
+renamed_table ws vs ks numbers out n a b long e =
     ap (λ k. take k out) (sym long ∙ ap length (sym a)) ∙ e ∙ (λ i. map (renamed (b i)) (a i))
 
-renamed-roots : (numbers : List ℕ) (ws : List Wish) → map (λ w. w.node) (map (renamed numbers) ws) ≡ map (λ r. get_or numbers r 0) (map (λ w. w.node) ws)
-renamed-roots numbers [] = refl
-renamed-roots numbers (w ∷ ws) = ap (λ l. get_or numbers w.node 0 ∷ l) (renamed-roots numbers ws)
+renamed_roots : (numbers : List ℕ) (ws : List Wish) → map (λ w. w.node) (map (renamed numbers) ws) ≡ map (λ r. get_or numbers r 0) (map (λ w. w.node) ws)
+renamed_roots numbers [] = refl
+renamed_roots numbers (w ∷ ws) = ap (λ l. get_or numbers w.node 0 ∷ l) (renamed_roots numbers ws)
 
 -- the items over the different nodes are those of the words
-pub items-same : (ns : List Node) (ws : List Wish) → items_over (nodes_of ns) (map (renamed (numbers_of ns)) ws) ≡ items_for ns ws
-items-same ns ws = ap (λ roots. kept_items (nodes_of ns) (resting (nodes_of ns) roots)) (renamed-roots (numbers_of ns) ws)
+pub items_same : (ns : List Node) (ws : List Wish) → items_over (nodes_of ns) (map (renamed (numbers_of ns)) ws) ≡ items_for ns ws
+items_same ns ws = ap (λ roots. kept_items (nodes_of ns) (resting (nodes_of ns) roots)) (renamed_roots (numbers_of ns) ws)
 
-renamed-good : (ns : List Node) (ws : List Wish) → Faithful ns → all (good_wish (length ns)) ws ≡ true → all (good_wish (length (nodes_of ns))) (map (renamed (numbers_of ns)) ws) ≡ true
-renamed-good ns [] f each = refl
-renamed-good ns (w ∷ ws) f each =
+renamed_good : (ns : List Node) (ws : List Wish) → Faithful ns → all (good_wish (length ns)) ws ≡ true → all (good_wish (length (nodes_of ns))) (map (renamed (numbers_of ns)) ws) ≡ true
+renamed_good ns [] f each = refl
+renamed_good ns (w ∷ ws) f each =
     let parts = and_parts (good_wish (length ns) w) (all (good_wish (length ns)) ws) each in
     let own = and_parts (ltb w.node (length ns)) (ltb w.raised 512) parts.0 in
     and_from (good_wish (length (nodes_of ns)) (renamed (numbers_of ns) w)) (all (good_wish (length (nodes_of ns))) (map (renamed (numbers_of ns)) ws))
     (and_from (ltb (get_or (numbers_of ns) w.node 0) (length (nodes_of ns))) (ltb w.raised 512) (lt-ltb _ _ (f.in_range w.node (ltb-true w.node (length ns) own.0))) own.1)
-    (renamed-good ns ws f parts.1)
+    (renamed_good ns ws f parts.1)
 
 -- the book's operands number earlier nodes, and its wishes name nodes
-pub whole-sound : (ns : List Node) (ws : List Wish) → earlier ns ≡ true → all (good_wish (length ns)) ws ≡ true → sound (nodes_of ns) (map (renamed (numbers_of ns)) ws) ≡ true
-whole-sound ns ws e each =
+pub whole_sound : (ns : List Node) (ws : List Wish) → earlier ns ≡ true → all (good_wish (length ns)) ws ≡ true → sound (nodes_of ns) (map (renamed (numbers_of ns)) ws) ≡ true
+whole_sound ns ws e each =
     let f = faithful ns e in
-    and_from (earlier (nodes_of ns)) (all (good_wish (length (nodes_of ns))) (map (renamed (numbers_of ns)) ws)) f.still_earlier (renamed-good ns ws f each)
+    and_from (earlier (nodes_of ns)) (all (good_wish (length (nodes_of ns))) (map (renamed (numbers_of ns)) ws)) f.still_earlier (renamed_good ns ws f each)
 
-meant-same : (ns : List Node) (ws : List Wish) → Faithful ns → all (good_wish (length ns)) ws ≡ true → meant (nodes_of ns) (map (renamed (numbers_of ns)) ws) ≡ meant ns ws
-meant-same ns [] f each = refl
-meant-same ns (w ∷ ws) f each =
+meant_same : (ns : List Node) (ws : List Wish) → Faithful ns → all (good_wish (length ns)) ws ≡ true → meant (nodes_of ns) (map (renamed (numbers_of ns)) ws) ≡ meant ns ws
+meant_same ns [] f each = refl
+meant_same ns (w ∷ ws) f each =
     let parts = and_parts (good_wish (length ns) w) (all (good_wish (length ns)) ws) each in
     let own = and_parts (ltb w.node (length ns)) (ltb w.raised 512) parts.0 in
-    λ i. (f.same_formula w.node (ltb-true w.node (length ns) own.0) i, w.raised) ∷ meant-same ns ws f parts.1 i
+    λ i. (f.same_formula w.node (ltb-true w.node (length ns) own.0) i, w.raised) ∷ meant_same ns ws f parts.1 i
 
 -- a book means what its node words say
-pub same-wishes : SameWishes
-same-wishes f e = let v = validly f e in meant-same f.nodes f.wishes (faithful f.nodes v.operands) v.amounts
+pub same_wishes : SameWishes
+same_wishes f e = let v = validly f e in meant_same f.nodes f.wishes (faithful f.nodes v.operands) v.amounts
 
 -- the tables of the book that was gathered
 pub record Tables (g : Gathered) (nodes' : List Node) (count : ℕ) (wishes' : List Wish) : Type 0 where
@@ -108,36 +108,36 @@ whole_tables {nodes} {nodes'} {numbers} {numbers'} g count wishes' w e =
     let size : length (nodes_in g) ≡ g.count = length-take-le g.count g.nodes (omega (arith, g.few.0, g.few.1)) in
     record {
       nodes_are = told.0;
-      wishes_are = renamed-table (take (g.wished - 0) g.wishes) (wishes_in g) (take (g.count - 0) numbers') (numbers_of (nodes_in g)) wishes' g.wished
+      wishes_are = renamed_table (take (g.wished - 0) g.wishes) (wishes_in g) (take (g.count - 0) numbers') (numbers_of (nodes_in g)) wishes' g.wished
           (ap (λ n. take n g.wishes) (sub-zero g.wished)) (ap (λ n. take n numbers') (sub-zero g.count ∙ sym size) ∙ told.1) (length-take-le g.wished g.wishes (omega (arith, g.few.2, g.few.3))) e;
       count_is = told.2;
     }
 
 module _ (g : Gathered) (nodes' : List Node) (count : ℕ) (wishes' : List Wish) (t : Tables g nodes' count wishes') (good : Good (wishing (nodes_in g) (wishes_in g))) where
-  pub count-few : count ≤ 128
-  count-few = omega (arith, t.count_is, nodes_of-length (nodes_in g), good.0.1.1)
+  pub count_few : count ≤ 128
+  count_few = omega (arith, t.count_is, nodes_of-length (nodes_in g), good.0.1.1)
 
   pub tables_sound : sound (take count nodes') (take g.wished wishes') ≡ true
-  tables_sound = (λ i. sound (t.nodes_are i) (t.wishes_are i)) ∙ whole-sound (nodes_in g) (wishes_in g) good.0.0 good.1.1.1.1
+  tables_sound = (λ i. sound (t.nodes_are i) (t.wishes_are i)) ∙ whole_sound (nodes_in g) (wishes_in g) good.0.0 good.1.1.1.1
 
-  items-cut : items_over (take (count - 0) nodes') (take (g.wished - 0) wishes') ≡ items_over (take count nodes') (take g.wished wishes')
-  items-cut = λ i. items_over (take (sub-zero count i) nodes') (take (sub-zero g.wished i) wishes')
+  items_cut : items_over (take (count - 0) nodes') (take (g.wished - 0) wishes') ≡ items_over (take count nodes') (take g.wished wishes')
+  items_cut = λ i. items_over (take (sub-zero count i) nodes') (take (sub-zero g.wished i) wishes')
 
-  items-all : items_over (take count nodes') (take g.wished wishes') ≡ items_for (nodes_in g) (wishes_in g)
-  items-all = (λ i. items_over (t.nodes_are i) (t.wishes_are i)) ∙ items-same (nodes_in g) (wishes_in g)
+  items_all : items_over (take count nodes') (take g.wished wishes') ≡ items_for (nodes_in g) (wishes_in g)
+  items_all = (λ i. items_over (t.nodes_are i) (t.wishes_are i)) ∙ items_same (nodes_in g) (wishes_in g)
 
   pub tables_remember : (items : List Item) (kept : ℕ) → Remembered (items_over (take (count - 0) nodes') (take (g.wished - 0) wishes')) items (Some kept) → take kept items ≡ items_over (take count nodes') (take g.wished wishes')
-  tables_remember items kept r = r.1 ∙ items-cut
+  tables_remember items kept r = r.1 ∙ items_cut
 
   pub tables_few : (items : List Item) (kept : ℕ) → length items ≡ 16 → Remembered (items_over (take (count - 0) nodes') (take (g.wished - 0) wishes')) items (Some kept) → length (items_for (nodes_in g) (wishes_in g)) ≤ 16
-  tables_few items kept long r = omega (arith, ap length (sym (tables_remember items kept r ∙ items-all)), length-take-le kept items (omega (arith, r.0, long)), r.0)
+  tables_few items kept long r = omega (arith, ap length (sym (tables_remember items kept r ∙ items_all)), length-take-le kept items (omega (arith, r.0, long)), r.0)
 
   pub tables_book : (items : List Item) (kept : ℕ) → Remembered (items_over (take (count - 0) nodes') (take (g.wished - 0) wishes')) items (Some kept)
       → record { nodes = take count nodes'; wishes = take g.wished wishes'; items = take kept items } ≡ book_of (record { nodes = nodes_in g; wishes = wishes_in g })
-  tables_book items kept r = λ i. record { nodes = t.nodes_are i; wishes = t.wishes_are i; items = (tables_remember items kept r ∙ items-all) i }
+  tables_book items kept r = λ i. record { nodes = t.nodes_are i; wishes = t.wishes_are i; items = (tables_remember items kept r ∙ items_all) i }
 
   pub tables_over : (items : List Item) → Remembered (items_over (take (count - 0) nodes') (take (g.wished - 0) wishes')) items None → 16 < length (items_for (nodes_in g) (wishes_in g))
-  tables_over items r = omega (arith, r, ap length (items-cut ∙ items-all))
+  tables_over items r = omega (arith, r, ap length (items_cut ∙ items_all))
 
 -- what was gathered reads as a book, or as one with too many items
 pub reads_whole : (ns : List Node) (ws : List Wish) (p : ℕ) → length (items_for ns ws) ≤ 16 → closing (whole_book (wishing ns ws)) p ≡ got (record { nodes = ns; wishes = ws })

@@ -9,8 +9,8 @@ use Rattle.refusal.specs.declared.Refusal.{Refusal}
 use Rattle.refusal.specs.declared.Refusal.TheVariants.{WrongKind, UnusedBit, OutOfRange}
 use Rattle.words.specs.Words.{field, kind}
 use Rattle.words.specs.Format.{require}
-use Rattle.words.proofs.Fields.{field_and_above, field_below, field_put, kind-put}
-use Rattle.words.proofs.Tests.{require_ok, require-passed}
+use Rattle.words.proofs.Fields.{field_and_above, field_below, field_put, kind_put}
+use Rattle.words.proofs.Tests.{require_ok, require_passed}
 use Rattle.wishlayout.specs.declared.Wish.{Wish}
 use Rattle.wishlayout.specs.Wishes.{good_label, good_wish}
 use Rattle.wishlayout.specs.OneWord.{node_word, wish_word, following, label_in, one_in, two_in, true_in, unary_of, binary_of, is_unary, is_binary, node_of, wish_of}
@@ -129,8 +129,8 @@ one_written count k a few low =
     let under = ltb-true a count low in
     let f0 : field (k * 2 ^ 28 + a) 0 8 ≡ a = ap (λ x. field x 0 8) (omega arith) ∙ field_put 0 a (2 ^ 20 * k) 0 8 (omega arith) (omega arith) in
     let f1 : field (k * 2 ^ 28 + a) 8 20 ≡ 0 = ap (λ x. field x 8 20) (omega arith) ∙ field_put a 0 k 8 20 (omega arith) (omega arith) in
-    require-passed (eqb (field (k * 2 ^ 28 + a) 8 20) 0) UnusedBit (require (ltb (field (k * 2 ^ 28 + a) 0 8) count) OutOfRange (Ok (field (k * 2 ^ 28 + a) 0 8))) (eq-eqb (field (k * 2 ^ 28 + a) 8 20) 0 f1)
-    ∙ require-passed (ltb (field (k * 2 ^ 28 + a) 0 8) count) OutOfRange (Ok (field (k * 2 ^ 28 + a) 0 8)) (ap (λ x. ltb x count) f0 ∙ low)
+    require_passed (eqb (field (k * 2 ^ 28 + a) 8 20) 0) UnusedBit (require (ltb (field (k * 2 ^ 28 + a) 0 8) count) OutOfRange (Ok (field (k * 2 ^ 28 + a) 0 8))) (eq-eqb (field (k * 2 ^ 28 + a) 8 20) 0 f1)
+    ∙ require_passed (ltb (field (k * 2 ^ 28 + a) 0 8) count) OutOfRange (Ok (field (k * 2 ^ 28 + a) 0 8)) (ap (λ x. ltb x count) f0 ∙ low)
     ∙ ap Ok f0
 
 two_written : (count k a b : ℕ) → count ≤ 128 → (ltb a count && ltb b count) ≡ true → two_in count (k * 2 ^ 28 + (a + b * 2 ^ 8)) ≡ Ok (a, b)
@@ -141,8 +141,8 @@ two_written count k a b few low =
     let f0 : field (k * 2 ^ 28 + (a + b * 2 ^ 8)) 0 8 ≡ a = ap (λ x. field x 0 8) (omega arith) ∙ field_put 0 a (b + 2 ^ 20 * k) 0 8 (omega arith) (omega arith) in
     let f1 : field (k * 2 ^ 28 + (a + b * 2 ^ 8)) 8 8 ≡ b = ap (λ x. field x 8 8) (omega arith) ∙ field_put a b (2 ^ 12 * k) 8 8 (omega arith) (omega arith) in
     let f2 : field (k * 2 ^ 28 + (a + b * 2 ^ 8)) 16 12 ≡ 0 = ap (λ x. field x 16 12) (omega arith) ∙ field_put (a + b * 2 ^ 8) 0 k 16 12 (omega arith) (omega arith) in
-    require-passed (eqb (field (k * 2 ^ 28 + (a + b * 2 ^ 8)) 16 12) 0) UnusedBit (require (ltb (field (k * 2 ^ 28 + (a + b * 2 ^ 8)) 0 8) count && ltb (field (k * 2 ^ 28 + (a + b * 2 ^ 8)) 8 8) count) OutOfRange (Ok (field (k * 2 ^ 28 + (a + b * 2 ^ 8)) 0 8, field (k * 2 ^ 28 + (a + b * 2 ^ 8)) 8 8))) (eq-eqb (field (k * 2 ^ 28 + (a + b * 2 ^ 8)) 16 12) 0 f2)
-    ∙ require-passed (ltb (field (k * 2 ^ 28 + (a + b * 2 ^ 8)) 0 8) count && ltb (field (k * 2 ^ 28 + (a + b * 2 ^ 8)) 8 8) count) OutOfRange (Ok (field (k * 2 ^ 28 + (a + b * 2 ^ 8)) 0 8, field (k * 2 ^ 28 + (a + b * 2 ^ 8)) 8 8))
+    require_passed (eqb (field (k * 2 ^ 28 + (a + b * 2 ^ 8)) 16 12) 0) UnusedBit (require (ltb (field (k * 2 ^ 28 + (a + b * 2 ^ 8)) 0 8) count && ltb (field (k * 2 ^ 28 + (a + b * 2 ^ 8)) 8 8) count) OutOfRange (Ok (field (k * 2 ^ 28 + (a + b * 2 ^ 8)) 0 8, field (k * 2 ^ 28 + (a + b * 2 ^ 8)) 8 8))) (eq-eqb (field (k * 2 ^ 28 + (a + b * 2 ^ 8)) 16 12) 0 f2)
+    ∙ require_passed (ltb (field (k * 2 ^ 28 + (a + b * 2 ^ 8)) 0 8) count && ltb (field (k * 2 ^ 28 + (a + b * 2 ^ 8)) 8 8) count) OutOfRange (Ok (field (k * 2 ^ 28 + (a + b * 2 ^ 8)) 0 8, field (k * 2 ^ 28 + (a + b * 2 ^ 8)) 8 8))
     (and_from (ltb (field (k * 2 ^ 28 + (a + b * 2 ^ 8)) 0 8) count) (ltb (field (k * 2 ^ 28 + (a + b * 2 ^ 8)) 8 8) count) (ap (λ x. ltb x count) f0 ∙ parts.0) (ap (λ x. ltb x count) f1 ∙ parts.1))
     ∙ (λ i. Ok (f0 i, f1 i))
 
@@ -154,23 +154,23 @@ node_at count w k =
     (cond (is_binary k) (following (two_in count w) (λ p. binary_of k p.0 p.1))
     (cond (eqb k 9) (true_in w) (Err WrongKind))))
 
-low-one : (count a : ℕ) → count ≤ 128 → ltb a count ≡ true → a < 2 ^ 28
-low-one count a few low = omega (arith, ltb-true a count low)
+low_one : (count a : ℕ) → count ≤ 128 → ltb a count ≡ true → a < 2 ^ 28
+low_one count a few low = omega (arith, ltb-true a count low)
 
 low_two : (count a b : ℕ) → count ≤ 128 → (ltb a count && ltb b count) ≡ true → a + b * 2 ^ 8 < 2 ^ 28
 low_two count a b few low = let parts = and_parts (ltb a count) (ltb b count) low in omega (arith, ltb-true a count parts.0, ltb-true b count parts.1)
 
 -- the kind of a node's word is below 10
 pub node_kind : (count : ℕ) (n : Node) → count ≤ 128 → operands_below count n ≡ true → good_label n ≡ true → (kind (node_word n) < 10) × (node_word n < 2 ^ 32)
-node_kind count (Label p) few o l = let u = ltb-true p 32 l in (omega (arith, kind-put p 1 (omega arith)), omega arith)
-node_kind count (Not a) few o l = (omega (arith, kind-put a 2 (low-one count a few o)), omega (arith, low-one count a few o))
-node_kind count (And a b) few o l = (omega (arith, kind-put (a + b * 2 ^ 8) 3 (low_two count a b few o)), omega (arith, low_two count a b few o))
-node_kind count (Or a b) few o l = (omega (arith, kind-put (a + b * 2 ^ 8) 4 (low_two count a b few o)), omega (arith, low_two count a b few o))
-node_kind count (Previous a) few o l = (omega (arith, kind-put a 5 (low-one count a few o)), omega (arith, low-one count a few o))
-node_kind count (Since a b) few o l = (omega (arith, kind-put (a + b * 2 ^ 8) 6 (low_two count a b few o)), omega (arith, low_two count a b few o))
-node_kind count (Always a) few o l = (omega (arith, kind-put a 7 (low-one count a few o)), omega (arith, low-one count a few o))
-node_kind count (Once a) few o l = (omega (arith, kind-put a 8 (low-one count a few o)), omega (arith, low-one count a few o))
-node_kind count True few o l = (omega (arith, kind-put 0 9 (omega arith)), omega arith)
+node_kind count (Label p) few o l = let u = ltb-true p 32 l in (omega (arith, kind_put p 1 (omega arith)), omega arith)
+node_kind count (Not a) few o l = (omega (arith, kind_put a 2 (low_one count a few o)), omega (arith, low_one count a few o))
+node_kind count (And a b) few o l = (omega (arith, kind_put (a + b * 2 ^ 8) 3 (low_two count a b few o)), omega (arith, low_two count a b few o))
+node_kind count (Or a b) few o l = (omega (arith, kind_put (a + b * 2 ^ 8) 4 (low_two count a b few o)), omega (arith, low_two count a b few o))
+node_kind count (Previous a) few o l = (omega (arith, kind_put a 5 (low_one count a few o)), omega (arith, low_one count a few o))
+node_kind count (Since a b) few o l = (omega (arith, kind_put (a + b * 2 ^ 8) 6 (low_two count a b few o)), omega (arith, low_two count a b few o))
+node_kind count (Always a) few o l = (omega (arith, kind_put a 7 (low_one count a few o)), omega (arith, low_one count a few o))
+node_kind count (Once a) few o l = (omega (arith, kind_put a 8 (low_one count a few o)), omega (arith, low_one count a few o))
+node_kind count True few o l = (omega (arith, kind_put 0 9 (omega arith)), omega arith)
 
 -- the word that is written for a node reads as that node
 pub node_written : (count : ℕ) (n : Node) → count ≤ 128 → operands_below count n ≡ true → good_label n ≡ true → node_of count (node_word n) ≡ Ok n
@@ -178,19 +178,19 @@ node_written count (Label p) few o l =
     let u = ltb-true p 32 l in
     let f0 : field (1 * 2 ^ 28 + p) 0 5 ≡ p = ap (λ x. field x 0 5) (omega arith) ∙ field_put 0 p (2 ^ 23) 0 5 (omega arith) (omega arith) in
     let f1 : field (1 * 2 ^ 28 + p) 5 23 ≡ 0 = ap (λ x. field x 5 23) (omega arith) ∙ field_put p 0 1 5 23 (omega arith) (omega arith) in
-    ap (node_at count (1 * 2 ^ 28 + p)) (kind-put p 1 (omega arith))
-    ∙ ap (λ s. following s (λ p. Ok (Label p))) (require-passed (eqb (field (1 * 2 ^ 28 + p) 5 23) 0) UnusedBit (Ok (field (1 * 2 ^ 28 + p) 0 5)) (eq-eqb (field (1 * 2 ^ 28 + p) 5 23) 0 f1))
+    ap (node_at count (1 * 2 ^ 28 + p)) (kind_put p 1 (omega arith))
+    ∙ ap (λ s. following s (λ p. Ok (Label p))) (require_passed (eqb (field (1 * 2 ^ 28 + p) 5 23) 0) UnusedBit (Ok (field (1 * 2 ^ 28 + p) 0 5)) (eq-eqb (field (1 * 2 ^ 28 + p) 5 23) 0 f1))
     ∙ ap (λ p. Ok (Label p)) f0
-node_written count (Not a) few o l = ap (node_at count (2 * 2 ^ 28 + a)) (kind-put a 2 (low-one count a few o)) ∙ ap (λ s. following s (unary_of 2)) (one_written count 2 a few o)
-node_written count (And a b) few o l = ap (node_at count (3 * 2 ^ 28 + (a + b * 2 ^ 8))) (kind-put (a + b * 2 ^ 8) 3 (low_two count a b few o)) ∙ ap (λ s. following s (λ p. binary_of 3 p.0 p.1)) (two_written count 3 a b few o)
-node_written count (Or a b) few o l = ap (node_at count (4 * 2 ^ 28 + (a + b * 2 ^ 8))) (kind-put (a + b * 2 ^ 8) 4 (low_two count a b few o)) ∙ ap (λ s. following s (λ p. binary_of 4 p.0 p.1)) (two_written count 4 a b few o)
-node_written count (Previous a) few o l = ap (node_at count (5 * 2 ^ 28 + a)) (kind-put a 5 (low-one count a few o)) ∙ ap (λ s. following s (unary_of 5)) (one_written count 5 a few o)
-node_written count (Since a b) few o l = ap (node_at count (6 * 2 ^ 28 + (a + b * 2 ^ 8))) (kind-put (a + b * 2 ^ 8) 6 (low_two count a b few o)) ∙ ap (λ s. following s (λ p. binary_of 6 p.0 p.1)) (two_written count 6 a b few o)
-node_written count (Always a) few o l = ap (node_at count (7 * 2 ^ 28 + a)) (kind-put a 7 (low-one count a few o)) ∙ ap (λ s. following s (unary_of 7)) (one_written count 7 a few o)
-node_written count (Once a) few o l = ap (node_at count (8 * 2 ^ 28 + a)) (kind-put a 8 (low-one count a few o)) ∙ ap (λ s. following s (unary_of 8)) (one_written count 8 a few o)
+node_written count (Not a) few o l = ap (node_at count (2 * 2 ^ 28 + a)) (kind_put a 2 (low_one count a few o)) ∙ ap (λ s. following s (unary_of 2)) (one_written count 2 a few o)
+node_written count (And a b) few o l = ap (node_at count (3 * 2 ^ 28 + (a + b * 2 ^ 8))) (kind_put (a + b * 2 ^ 8) 3 (low_two count a b few o)) ∙ ap (λ s. following s (λ p. binary_of 3 p.0 p.1)) (two_written count 3 a b few o)
+node_written count (Or a b) few o l = ap (node_at count (4 * 2 ^ 28 + (a + b * 2 ^ 8))) (kind_put (a + b * 2 ^ 8) 4 (low_two count a b few o)) ∙ ap (λ s. following s (λ p. binary_of 4 p.0 p.1)) (two_written count 4 a b few o)
+node_written count (Previous a) few o l = ap (node_at count (5 * 2 ^ 28 + a)) (kind_put a 5 (low_one count a few o)) ∙ ap (λ s. following s (unary_of 5)) (one_written count 5 a few o)
+node_written count (Since a b) few o l = ap (node_at count (6 * 2 ^ 28 + (a + b * 2 ^ 8))) (kind_put (a + b * 2 ^ 8) 6 (low_two count a b few o)) ∙ ap (λ s. following s (λ p. binary_of 6 p.0 p.1)) (two_written count 6 a b few o)
+node_written count (Always a) few o l = ap (node_at count (7 * 2 ^ 28 + a)) (kind_put a 7 (low_one count a few o)) ∙ ap (λ s. following s (unary_of 7)) (one_written count 7 a few o)
+node_written count (Once a) few o l = ap (node_at count (8 * 2 ^ 28 + a)) (kind_put a 8 (low_one count a few o)) ∙ ap (λ s. following s (unary_of 8)) (one_written count 8 a few o)
 node_written count True few o l =
     let f0 : field (9 * 2 ^ 28 + 0) 0 28 ≡ 0 = refl in
-    ap (node_at count (9 * 2 ^ 28 + 0)) (kind-put 0 9 (omega arith)) ∙ require-passed (eqb (field (9 * 2 ^ 28 + 0) 0 28) 0) UnusedBit (Ok True) refl
+    ap (node_at count (9 * 2 ^ 28 + 0)) (kind_put 0 9 (omega arith)) ∙ require_passed (eqb (field (9 * 2 ^ 28 + 0) 0 28) 0) UnusedBit (Ok True) refl
 
 pub wish_written : (count : ℕ) (x : Wish) → count ≤ 128 → good_wish count x ≡ true → (wish_of count (wish_word x) ≡ Ok x) × ((kind (wish_word x) ≡ 10) × (wish_word x < 2 ^ 32))
 wish_written count x few good =
@@ -200,10 +200,10 @@ wish_written count x few good =
     let f0 : field (wish_word x) 0 8 ≡ x.node = ap (λ v. field v 0 8) (omega arith) ∙ field_put 0 x.node (x.raised + 2 ^ 20 * 10) 0 8 (omega arith) (omega arith) in
     let f1 : field (wish_word x) 8 9 ≡ x.raised = ap (λ v. field v 8 9) (omega arith) ∙ field_put x.node x.raised (2 ^ 11 * 10) 8 9 (omega arith) (omega arith) in
     let f2 : field (wish_word x) 17 11 ≡ 0 = ap (λ v. field v 17 11) (omega arith) ∙ field_put (x.node + x.raised * 2 ^ 8) 0 10 17 11 (omega arith) (omega arith) in
-    let kd : kind (wish_word x) ≡ 10 = kind-put (x.node + x.raised * 2 ^ 8) 10 (omega arith) in (
-      require-passed (eqb (kind (wish_word x)) 10) WrongKind (require (eqb (field (wish_word x) 17 11) 0) UnusedBit (require (ltb (field (wish_word x) 0 8) count) OutOfRange (Ok (record { node = field (wish_word x) 0 8; raised = field (wish_word x) 8 9 })))) (eq-eqb (kind (wish_word x)) 10 kd)
-          ∙ require-passed (eqb (field (wish_word x) 17 11) 0) UnusedBit (require (ltb (field (wish_word x) 0 8) count) OutOfRange (Ok (record { node = field (wish_word x) 0 8; raised = field (wish_word x) 8 9 }))) (eq-eqb (field (wish_word x) 17 11) 0 f2)
-          ∙ require-passed (ltb (field (wish_word x) 0 8) count) OutOfRange (Ok (record { node = field (wish_word x) 0 8; raised = field (wish_word x) 8 9 })) (ap (λ v. ltb v count) f0 ∙ parts.0)
+    let kd : kind (wish_word x) ≡ 10 = kind_put (x.node + x.raised * 2 ^ 8) 10 (omega arith) in (
+      require_passed (eqb (kind (wish_word x)) 10) WrongKind (require (eqb (field (wish_word x) 17 11) 0) UnusedBit (require (ltb (field (wish_word x) 0 8) count) OutOfRange (Ok (record { node = field (wish_word x) 0 8; raised = field (wish_word x) 8 9 })))) (eq-eqb (kind (wish_word x)) 10 kd)
+          ∙ require_passed (eqb (field (wish_word x) 17 11) 0) UnusedBit (require (ltb (field (wish_word x) 0 8) count) OutOfRange (Ok (record { node = field (wish_word x) 0 8; raised = field (wish_word x) 8 9 }))) (eq-eqb (field (wish_word x) 17 11) 0 f2)
+          ∙ require_passed (ltb (field (wish_word x) 0 8) count) OutOfRange (Ok (record { node = field (wish_word x) 0 8; raised = field (wish_word x) 8 9 })) (ap (λ v. ltb v count) f0 ∙ parts.0)
           ∙ (λ i. Ok (record { node = f0 i; raised = f1 i })),
       (kd, omega arith),
     )

@@ -11,10 +11,10 @@ use Rattle.refusal.specs.declared.Refusal.TheVariants.{WrongKind, TooManyItems}
 use Rattle.words.specs.Words.{kind, end_word}
 use Rattle.words.specs.Format.{Step, more, ends, check, onto, got, reading, file, ReadsBack, Faithful}
 use Rattle.words.specs.Tests.{all, within, none}
-use Rattle.words.proofs.Reading.{places-right}
-use Rattle.words.proofs.Encoding.{Passes, passes_append, reads-file, only_encodings}
-use Rattle.words.proofs.Fields.{kind-put}
-use Rattle.words.proofs.Tests.{all_push, check-more, check-ends, check-passed, onto-more, onto-ends, within-parts, within-from}
+use Rattle.words.proofs.Reading.{places_right}
+use Rattle.words.proofs.Encoding.{Passes, passes_append, reads_file, only_encodings}
+use Rattle.words.proofs.Fields.{kind_put}
+use Rattle.words.proofs.Tests.{all_push, check_more, check_ends, check_passed, onto_more, onto_ends, within_parts, within_from}
 use Rattle.wishlayout.specs.declared.Wish.{Wish}
 use Rattle.wishlayout.specs.OneWord.{node_word, wish_word, node_of, wish_of}
 use Rattle.wishlayout.specs.Wishes.{Wishes, items_for, good_label, good_wish, valid}
@@ -40,16 +40,16 @@ same_more e = cc
 more_is_no_end : {t : Draft} → more t ≡ ends → ⊥
 more_is_no_end e = let z : ◌≡◌ {A = ℕ} 0 1 = cc in omega arith
 
-some-nodes : (ns : List Node) → none ns ≡ false → 1 ≤ length ns
-some-nodes [] e = let z : ◌≡◌ {A = ℕ} 0 1 = cc in absurd (omega arith)
-some-nodes (n ∷ ns) e = omega arith
+some_nodes : (ns : List Node) → none ns ≡ false → 1 ≤ length ns
+some_nodes [] e = let z : ◌≡◌ {A = ℕ} 0 1 = cc in absurd (omega arith)
+some_nodes (n ∷ ns) e = omega arith
 
 abbrev Next : Draft → ℕ → Draft → Type 0
 Next d w t = Good t × (written t ≡ written d ++ (w ∷ []))
 
 wish_next : (ns : List Node) (ws : List Wish) (w : ℕ) (t : Draft) → GoodNodes ns → 1 ≤ length ns → length ws < 16 → all (good_wish (length ns)) ws ≡ true → read_wish ns ws w ≡ more t → Good t × (written t ≡ (node_words ns ++ amount_words ws) ++ (w ∷ []))
 wish_next ns ws w t g some few each e =
-    let said = onto-more (wish_of (length ns) w) (λ x. more (wishing ns (ws ++ (x ∷ [])))) t e in
+    let said = onto_more (wish_of (length ns) w) (λ x. more (wishing ns (ws ++ (x ∷ [])))) t e in
     let told = wish_in_reads (length ns) w said.0 said.1.0 in
     let long = length_push ws said.0 in
     subst (λ t. Good t × (written t ≡ (node_words ns ++ amount_words ws) ++ (w ∷ []))) (same_more said.1.1) (
@@ -62,12 +62,12 @@ unfolding read_word
 word_kept (noding ns) t w g e =
     elim (cases_Bool (eqb (kind w) 10)) [
       | inl is ↦
-          let some = check-more (not (none ns)) WrongKind (read_wish ns [] w) t (sym (ap (λ b. cond b (check (not (none ns)) WrongKind (read_wish ns [] w)) (check (ltb (length ns) 128) WrongKind (onto (node_of (length ns) w) (λ n. more (noding (ns ++ (n ∷ []))))))) is) ∙ e) in
-          let told = wish_next ns [] w t g (some-nodes ns (not-true (none ns) some.0)) (omega arith) refl some.1 in
+          let some = check_more (not (none ns)) WrongKind (read_wish ns [] w) t (sym (ap (λ b. cond b (check (not (none ns)) WrongKind (read_wish ns [] w)) (check (ltb (length ns) 128) WrongKind (onto (node_of (length ns) w) (λ n. more (noding (ns ++ (n ∷ []))))))) is) ∙ e) in
+          let told = wish_next ns [] w t g (some_nodes ns (not-true (none ns) some.0)) (omega arith) refl some.1 in
           (told.0, told.1 ∙ ap (λ l. l ++ (w ∷ [])) (append-nil (node_words ns)))
       | inr isnt ↦
-          let room = check-more (ltb (length ns) 128) WrongKind (onto (node_of (length ns) w) (λ n. more (noding (ns ++ (n ∷ []))))) t (sym (ap (λ b. cond b (check (not (none ns)) WrongKind (read_wish ns [] w)) (check (ltb (length ns) 128) WrongKind (onto (node_of (length ns) w) (λ n. more (noding (ns ++ (n ∷ []))))))) isnt) ∙ e) in
-          let said = onto-more (node_of (length ns) w) (λ n. more (noding (ns ++ (n ∷ [])))) t room.1 in
+          let room = check_more (ltb (length ns) 128) WrongKind (onto (node_of (length ns) w) (λ n. more (noding (ns ++ (n ∷ []))))) t (sym (ap (λ b. cond b (check (not (none ns)) WrongKind (read_wish ns [] w)) (check (ltb (length ns) 128) WrongKind (onto (node_of (length ns) w) (λ n. more (noding (ns ++ (n ∷ []))))))) isnt) ∙ e) in
+          let said = onto_more (node_of (length ns) w) (λ n. more (noding (ns ++ (n ∷ [])))) t room.1 in
           let told = node_reads (length ns) w said.0 said.1.0 in
           let long = length_push ns said.0 in
           subst (Next (noding ns) w) (same_more said.1.1) (
@@ -79,47 +79,47 @@ word_kept (wishing ns ws) t w g e =
     elim (cases_Bool (eqb (kind w) 15)) [
       | inl is ↦ let z : ◌≡◌ {A = ℕ} 0 1 = cc (ap (λ b. cond b ends (check (ltb (length ws) 16) WrongKind (read_wish ns ws w))) is, e) in absurd (omega arith)
       | inr isnt ↦
-          let room = check-more (ltb (length ws) 16) WrongKind (read_wish ns ws w) t (sym (ap (λ b. cond b ends (check (ltb (length ws) 16) WrongKind (read_wish ns ws w))) isnt) ∙ e) in
+          let room = check_more (ltb (length ws) 16) WrongKind (read_wish ns ws w) t (sym (ap (λ b. cond b ends (check (ltb (length ws) 16) WrongKind (read_wish ns ws w))) isnt) ∙ e) in
           wish_next ns ws w t g.0 g.1.0 (ltb-true (length ws) 16 room.0) g.1.1.1.1 room.1
     ]
 
 wish_no_end : (ns : List Node) (ws : List Wish) (w : ℕ) → read_wish ns ws w ≡ ends → ⊥
-wish_no_end ns ws w e = more_is_no_end (onto-ends (wish_of (length ns) w) (λ x. more (wishing ns (ws ++ (x ∷ [])))) e).1.1
+wish_no_end ns ws w e = more_is_no_end (onto_ends (wish_of (length ns) w) (λ x. more (wishing ns (ws ++ (x ∷ [])))) e).1.1
 
 end_word_reads : (d : Draft) (w : ℕ) → w < 2 ^ 32 → Good d → read_word d w ≡ ends → kind w ≡ 15
 unfolding read_word
 end_word_reads (noding ns) w low g e =
     elim (cases_Bool (eqb (kind w) 10)) [
-      | inl is ↦ absurd (wish_no_end ns [] w (check-ends (not (none ns)) WrongKind (read_wish ns [] w) (sym (ap (λ b. cond b (check (not (none ns)) WrongKind (read_wish ns [] w)) (check (ltb (length ns) 128) WrongKind (onto (node_of (length ns) w) (λ n. more (noding (ns ++ (n ∷ []))))))) is) ∙ e)).1)
+      | inl is ↦ absurd (wish_no_end ns [] w (check_ends (not (none ns)) WrongKind (read_wish ns [] w) (sym (ap (λ b. cond b (check (not (none ns)) WrongKind (read_wish ns [] w)) (check (ltb (length ns) 128) WrongKind (onto (node_of (length ns) w) (λ n. more (noding (ns ++ (n ∷ []))))))) is) ∙ e)).1)
       | inr isnt ↦
-          let room = check-ends (ltb (length ns) 128) WrongKind (onto (node_of (length ns) w) (λ n. more (noding (ns ++ (n ∷ []))))) (sym (ap (λ b. cond b (check (not (none ns)) WrongKind (read_wish ns [] w)) (check (ltb (length ns) 128) WrongKind (onto (node_of (length ns) w) (λ n. more (noding (ns ++ (n ∷ []))))))) isnt) ∙ e) in
-          absurd (more_is_no_end (onto-ends (node_of (length ns) w) (λ n. more (noding (ns ++ (n ∷ [])))) room.1).1.1)
+          let room = check_ends (ltb (length ns) 128) WrongKind (onto (node_of (length ns) w) (λ n. more (noding (ns ++ (n ∷ []))))) (sym (ap (λ b. cond b (check (not (none ns)) WrongKind (read_wish ns [] w)) (check (ltb (length ns) 128) WrongKind (onto (node_of (length ns) w) (λ n. more (noding (ns ++ (n ∷ []))))))) isnt) ∙ e) in
+          absurd (more_is_no_end (onto_ends (node_of (length ns) w) (λ n. more (noding (ns ++ (n ∷ [])))) room.1).1.1)
     ]
 end_word_reads (wishing ns ws) w low g e =
     elim (cases_Bool (eqb (kind w) 15)) [
       | inl is ↦ eqb-true (kind w) 15 is
-      | inr isnt ↦ absurd (wish_no_end ns ws w (check-ends (ltb (length ws) 16) WrongKind (read_wish ns ws w) (sym (ap (λ b. cond b ends (check (ltb (length ws) 16) WrongKind (read_wish ns ws w))) isnt) ∙ e)).1)
+      | inr isnt ↦ absurd (wish_no_end ns ws w (check_ends (ltb (length ws) 16) WrongKind (read_wish ns ws w) (sym (ap (λ b. cond b ends (check (ltb (length ws) 16) WrongKind (read_wish ns ws w))) isnt) ∙ e)).1)
     ]
 
 abbrev choice : Bool → Wishes → Result Wishes Refusal
 choice t b = cond t (Ok b) (Err TooManyItems)
 
-same-book : {x y : Wishes} → ◌≡◌ {A = Result Wishes Refusal} (Ok x) (Ok y) → x ≡ y
-same-book e = cc
+same_book : {x y : Wishes} → ◌≡◌ {A = Result Wishes Refusal} (Ok x) (Ok y) → x ≡ y
+same_book e = cc
 
-book-kept : (d : Draft) (b : Wishes) → Good d → whole_book d ≡ Ok b → (valid b ≡ true) × (written d ≡ wish_words b)
+book_kept : (d : Draft) (b : Wishes) → Good d → whole_book d ≡ Ok b → (valid b ≡ true) × (written d ≡ wish_words b)
 unfolding whole_book
-book-kept (noding ns) b g e = let z : ◌≡◌ {A = ℕ} 0 1 = cc in absurd (omega arith)
-book-kept (wishing ns ws) b g e =
+book_kept (noding ns) b g e = let z : ◌≡◌ {A = ℕ} 0 1 = cc in absurd (omega arith)
+book_kept (wishing ns ws) b g e =
     elim (cases_Bool (leb (length (items_for ns ws)) 16)) [
       | inr never ↦ let z : ◌≡◌ {A = ℕ} 0 1 = cc (ap (λ t. choice t (record { nodes = ns; wishes = ws })) never, e) in absurd (omega arith)
       | inl few ↦
-          let same : record { nodes = ns; wishes = ws } ≡ b = same-book (sym (ap (λ t. choice t (record { nodes = ns; wishes = ws })) few) ∙ e) in
+          let same : record { nodes = ns; wishes = ws } ≡ b = same_book (sym (ap (λ t. choice t (record { nodes = ns; wishes = ws })) few) ∙ e) in
           subst (λ b. (valid b ≡ true) × (written (wishing ns ws) ≡ wish_words b)) same (
-            and_from _ _ (within-from 1 128 (length ns) g.1.0 g.0.1.1)
+            and_from _ _ (within_from 1 128 (length ns) g.1.0 g.0.1.1)
                 (and_from _ _ g.0.0
                 (and_from _ _ g.0.1.0
-                (and_from _ _ (within-from 1 16 (length ws) g.1.1.0 g.1.1.1.0)
+                (and_from _ _ (within_from 1 16 (length ws) g.1.1.0 g.1.1.1.0)
                 (and_from _ _ g.1.1.1.1 few)))),
             refl,
           )
@@ -133,7 +133,7 @@ node_step before n room o l =
     let k = node_kind (length before) n (omega arith) o l in
     let isnt : eqb (kind (node_word n)) 10 ≡ false = ne_eqb (kind (node_word n)) 10 (λ e. omega (arith, k.0, e)) in
     ap (λ b. cond b (check (not (none before)) WrongKind (read_wish before [] (node_word n))) (check (ltb (length before) 128) WrongKind (onto (node_of (length before) (node_word n)) (λ n. more (noding (before ++ (n ∷ []))))))) isnt
-    ∙ check-passed (ltb (length before) 128) WrongKind (onto (node_of (length before) (node_word n)) (λ n. more (noding (before ++ (n ∷ []))))) (lt-ltb (length before) 128 room)
+    ∙ check_passed (ltb (length before) 128) WrongKind (onto (node_of (length before) (node_word n)) (λ n. more (noding (before ++ (n ∷ []))))) (lt-ltb (length before) 128 room)
     ∙ ap (λ s. onto s (λ n. more (noding (before ++ (n ∷ []))))) (node_written (length before) n (omega arith) o l)
 
 way_nodes : (before rest : List Node) → earlier_from (length before) rest ≡ true → all good_label rest ≡ true → length before + length rest ≤ 128 → Passes wish_format (noding before) (node_words rest) (noding (before ++ rest))
@@ -167,7 +167,7 @@ wish_step ns before w few room good =
     let told = wish_written (length ns) w few good in
     let isnt : eqb (kind (wish_word w)) 15 ≡ false = ne_eqb (kind (wish_word w)) 15 (λ e. omega (arith, told.1.0, e)) in
     ap (λ b. cond b ends (check (ltb (length before) 16) WrongKind (read_wish ns before (wish_word w)))) isnt
-    ∙ check-passed (ltb (length before) 16) WrongKind (read_wish ns before (wish_word w)) (lt-ltb (length before) 16 room)
+    ∙ check_passed (ltb (length before) 16) WrongKind (read_wish ns before (wish_word w)) (lt-ltb (length before) 16 room)
     ∙ ap (λ s. onto s (λ x. more (wishing ns (before ++ (x ∷ []))))) told.0
 
 way_wishes : (ns : List Node) (before rest : List Wish) → length ns ≤ 128 → all (good_wish (length ns)) rest ≡ true → length before + length rest ≤ 16 → Passes wish_format (wishing ns before) (amount_words rest) (wishing ns (before ++ rest))
@@ -189,11 +189,11 @@ way_wishes ns before (w ∷ rest) few good room =
 
 end_step : (ns : List Node) (ws : List Wish) (n : ℕ) → n < 2 ^ 28 → read_word (wishing ns ws) (end_word n) ≡ ends
 unfolding read_word
-end_step ns ws n low = ap (λ b. cond b ends (check (ltb (length ws) 16) WrongKind (read_wish ns ws (end_word n)))) (eq-eqb (kind (end_word n)) 15 (kind-put n 15 low))
+end_step ns ws n low = ap (λ b. cond b ends (check (ltb (length ws) 16) WrongKind (read_wish ns ws (end_word n)))) (eq-eqb (kind (end_word n)) 15 (kind_put n 15 low))
 
-book-step : (ns : List Node) (ws : List Wish) → leb (length (items_for ns ws)) 16 ≡ true → whole_book (wishing ns ws) ≡ Ok (record { nodes = ns; wishes = ws })
+book_step : (ns : List Node) (ws : List Wish) → leb (length (items_for ns ws)) 16 ≡ true → whole_book (wishing ns ws) ≡ Ok (record { nodes = ns; wishes = ws })
 unfolding whole_book
-book-step ns ws few = ap (λ t. choice t (record { nodes = ns; wishes = ws })) few
+book_step ns ws few = ap (λ t. choice t (record { nodes = ns; wishes = ws })) few
 
 length-nodes : (ns : List Node) → length (node_words ns) ≡ length ns
 length-nodes [] = refl
@@ -221,8 +221,8 @@ validly b e =
     let d = and_parts _ _ c.1 in
     let f = and_parts _ _ d.1 in
     let h = and_parts _ _ f.1 in
-    let n = within-parts 1 128 (length b.nodes) a.0 in
-    let w = within-parts 1 16 (length b.wishes) f.0 in
+    let n = within_parts 1 128 (length b.nodes) a.0 in
+    let w = within_parts 1 16 (length b.wishes) f.0 in
     record { nodes_some = n.0; nodes_few = n.1; operands = c.0; labels = d.0; wishes_some = w.0; wishes_few = w.1; amounts = h.0; items = h.1 }
 
 reads_back_from : (ns : List Node) (ws : List Wish) → Validly (record { nodes = ns; wishes = ws }) → reading wish_format (file (wish_words (record { nodes = ns; wishes = ws }))) ≡ got (record { nodes = ns; wishes = ws })
@@ -236,14 +236,14 @@ reads_back_from (n ∷ ns) (w ∷ ws) v =
     let nodes = way_nodes [] (n ∷ ns) v.operands v.labels (omega (arith, few)) in
     let wishes : Passes wish_format (noding (n ∷ ns)) (amount_words (w ∷ ws)) (wishing (n ∷ ns) (w ∷ ws)) =
     (wishing (n ∷ ns) (w ∷ []), (first_wish n ns w few each.0, ((wish_written (length (n ∷ ns)) w few each.0).1.1, way_wishes (n ∷ ns) (w ∷ []) ws few each.1 (omega (arith, room))))) in
-    reads-file wish_format (wish_words (record { nodes = n ∷ ns; wishes = w ∷ ws })) (wishing (n ∷ ns) (w ∷ ws)) (record { nodes = n ∷ ns; wishes = w ∷ ws })
+    reads_file wish_format (wish_words (record { nodes = n ∷ ns; wishes = w ∷ ws })) (wishing (n ∷ ns) (w ∷ ws)) (record { nodes = n ∷ ns; wishes = w ∷ ws })
     (passes_append wish_format (node_words (n ∷ ns)) (amount_words (w ∷ ws)) (noding []) (noding (n ∷ ns)) (wishing (n ∷ ns) (w ∷ ws)) nodes wishes)
-    size (end_step (n ∷ ns) (w ∷ ws) (length (wish_words (record { nodes = n ∷ ns; wishes = w ∷ ws }))) size) (book-step (n ∷ ns) (w ∷ ws) v.items)
+    size (end_step (n ∷ ns) (w ∷ ws) (length (wish_words (record { nodes = n ∷ ns; wishes = w ∷ ws }))) size) (book_step (n ∷ ns) (w ∷ ws) v.items)
 
 -- the three laws of the wish book's layout
 pub wish_faithful : Faithful wish_format (λ b. valid b ≡ true) wish_words
 wish_faithful = record {
-  places = places-right wish_format;
+  places = places_right wish_format;
   back = λ b e. reads_back_from b.nodes b.wishes (validly b e);
-  only = only_encodings wish_format (λ b. valid b ≡ true) wish_words Good written (λ s t w low. word_kept s t w) end_word_reads book-kept (refl, (refl, omega arith)) refl;
+  only = only_encodings wish_format (λ b. valid b ≡ true) wish_words Good written (λ s t w low. word_kept s t w) end_word_reads book_kept (refl, (refl, omega arith)) refl;
 }

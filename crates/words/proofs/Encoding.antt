@@ -8,7 +8,7 @@ use Rattle.refusal.specs.declared.Refusal.{Refusal}
 use Rattle.refusal.specs.declared.Refusal.TheVariants.{CutOff, WrongEnd}
 use Rattle.words.specs.Words.{word_of, first_word, end_word, bytes_of, Bytes, kind}
 use Rattle.words.specs.Format.{Step, wrong, more, ends, Verdict, got, stop, Format, is_nil, closing, ending, run, reading, file, PlacesRight, ReadsBack, OnlyEncodings, Faithful}
-use Rattle.words.proofs.Reading.{after, run-four, places-right}
+use Rattle.words.proofs.Reading.{after, run_four, places_right}
 
 pub bytes_append : (xs ys : List ℕ) → bytes_of (xs ++ ys) ≡ bytes_of xs ++ bytes_of ys
 bytes_append [] ys = refl
@@ -43,9 +43,9 @@ word_of_bytes w h =
 stop_is_no_book : {B : Type 0} {r : Refusal} {p : ℕ} {b : B} → stop r p ≡ got b → ⊥
 stop_is_no_book e = let z : ◌≡◌ {A = ℕ} 0 1 = cc in omega arith
 
-nil-from : (rest : List ℕ) → is_nil rest ≡ true → rest ≡ []
-nil-from [] e = refl
-nil-from (x ∷ rest) e = let z : ◌≡◌ {A = ℕ} 0 1 = cc in absurd (omega arith)
+nil_from : (rest : List ℕ) → is_nil rest ≡ true → rest ≡ []
+nil_from [] e = refl
+nil_from (x ∷ rest) e = let z : ◌≡◌ {A = ℕ} 0 1 = cc in absurd (omega arith)
 
 closes : {B : Type 0} (whole : Result B Refusal) (p : ℕ) (b : B) → closing whole p ≡ got b → whole ≡ Ok b
 closes (Ok x) p b e = cc
@@ -56,7 +56,7 @@ whole_of {B} whole p w rest b e =
     elim (cases_Bool (eqb (w % 2 ^ 28) p && is_nil rest)) [
       | inl t ↦
           let parts = and_parts _ _ t in
-          (eqb-true _ _ parts.0, nil-from rest parts.1, closes whole p b (sym (ap (λ t. cond t (closing whole p) (stop WrongEnd p)) t) ∙ e))
+          (eqb-true _ _ parts.0, nil_from rest parts.1, closes whole p b (sym (ap (λ t. cond t (closing whole p) (stop WrongEnd p)) t) ∙ e))
       | inr t ↦ absurd (stop_is_no_book {B = B} (sym (ap (λ t. cond t (closing whole p) (stop WrongEnd p)) t) ∙ e))
     ]
 
@@ -71,16 +71,16 @@ module _ {S B : Type 0} (f : Format S B) (Valid : B → Type 0) (words : B → L
     module _ (s : S) (p a b c d : ℕ) (rest : List ℕ) (book : B) (good : Good s) (at : p ≡ length (written s)) (fit : Bytes (a ∷ b ∷ c ∷ d ∷ rest)) (e : run f s p (a ∷ b ∷ c ∷ d ∷ rest) ≡ got book)
         (below : (t : S) → Good t → p + 1 ≡ length (written t) → run f t (p + 1) rest ≡ got book → Accounts t rest book)
       where
-        accounts-four : (st : Step S) → f.step s (word_of a b c d) ≡ st → Accounts s (a ∷ b ∷ c ∷ d ∷ rest) book
-        accounts-four (wrong k) is = absurd (stop_is_no_book (sym (run-four f s p a b c d rest ∙ ap (after f s p (word_of a b c d) rest) is) ∙ e))
-        accounts-four (more t) is =
+        accounts_four : (st : Step S) → f.step s (word_of a b c d) ≡ st → Accounts s (a ∷ b ∷ c ∷ d ∷ rest) book
+        accounts_four (wrong k) is = absurd (stop_is_no_book (sym (run_four f s p a b c d rest ∙ ap (after f s p (word_of a b c d) rest) is) ∙ e))
+        accounts_four (more t) is =
             let low : word_of a b c d < 2 ^ 32 = omega (arith, fit.0, fit.1.0, fit.1.1.0, fit.1.1.1.0) in
             let next = steps s t (word_of a b c d) low good is in
-            let later = below t next.0 (ap (λ n. n + 1) at ∙ sym (ap length next.1 ∙ length_push (written s) (word_of a b c d))) (sym (run-four f s p a b c d rest ∙ ap (after f s p (word_of a b c d) rest) is) ∙ e) in
+            let later = below t next.0 (ap (λ n. n + 1) at ∙ sym (ap length next.1 ∙ length_push (written s) (word_of a b c d))) (sym (run_four f s p a b c d rest ∙ ap (after f s p (word_of a b c d) rest) is) ∙ e) in
             (later.0, sym (ap (λ l. l ++ rest) (ap bytes_of next.1 ∙ bytes_append (written s) (word_of a b c d ∷ []) ∙ ap (λ l. bytes_of (written s) ++ l) (bytes_of_word a b c d [] fit.0 fit.1.0 fit.1.1.0 fit.1.1.1.0)) ∙ append_assoc (bytes_of (written s)) (a ∷ b ∷ c ∷ d ∷ []) rest) ∙ later.1)
-        accounts-four ends is =
+        accounts_four ends is =
             let low : word_of a b c d < 2 ^ 32 = omega (arith, fit.0, fit.1.0, fit.1.1.0, fit.1.1.1.0) in
-            let told = whole_of (f.finish s) p (word_of a b c d) rest book (sym (run-four f s p a b c d rest ∙ ap (after f s p (word_of a b c d) rest) is) ∙ e) in
+            let told = whole_of (f.finish s) p (word_of a b c d) rest book (sym (run_four f s p a b c d rest ∙ ap (after f s p (word_of a b c d) rest) is) ∙ e) in
             let done = finishes s book good told.2 in
             let fifteen = ends-well s (word_of a b c d) low good is in
             let last : word_of a b c d ≡ end_word (length (written s)) = omega (arith, told.0, fifteen, at) in
@@ -99,7 +99,7 @@ module _ {S B : Type 0} (f : Format S B) (Valid : B → Type 0) (words : B → L
     accounts s p (a ∷ b ∷ []) book good at fit e = absurd (stop_is_no_book e)
     accounts s p (a ∷ b ∷ c ∷ []) book good at fit e = absurd (stop_is_no_book e)
     accounts s p (a ∷ b ∷ c ∷ d ∷ rest) book good at fit e =
-        accounts-four s p a b c d rest book good at fit e (λ t g n h. accounts t (p + 1) rest book g n fit.1.1.1.1 h) (f.step s (word_of a b c d)) refl
+        accounts_four s p a b c d rest book good at fit e (λ t g n h. accounts t (p + 1) rest book g n fit.1.1.1.1 h) (f.step s (word_of a b c d)) refl
 
     -- whatever is accepted is the encoding of the book that was read
     pub only_encodings : Good f.start → written f.start ≡ [] → OnlyEncodings f Valid words
@@ -123,22 +123,22 @@ module _ {S B : Type 0} (f : Format S B) where
       ap (λ x. run f x p tail) e ∙ ap (λ n. run f t n tail) (sym same)
   along s p (w ∷ ws) tail t (u, (e, (low, rest))) =
       let same : p + 1 + length ws ≡ p + suc (length ws) = omega arith in
-      run-four f s p _ _ _ _ (bytes_of ws ++ tail)
+      run_four f s p _ _ _ _ (bytes_of ws ++ tail)
       ∙ ap (λ x. after f s p x (bytes_of ws ++ tail) (f.step s x)) (word_of_bytes w low)
       ∙ ap (after f s p w (bytes_of ws ++ tail)) e
       ∙ along u (p + 1) ws tail t rest
       ∙ ap (λ n. run f t n tail) same
 
   -- a book whose words lead to an end is read from its file
-  pub reads-file : (ws : List ℕ) (t : S) (b : B) → Passes f f.start ws t → length ws < 2 ^ 28 → f.step t (end_word (length ws)) ≡ ends → f.finish t ≡ Ok b → reading f (file ws) ≡ got b
-  reads-file ws t b way few end whole =
+  pub reads_file : (ws : List ℕ) (t : S) (b : B) → Passes f f.start ws t → length ws < 2 ^ 28 → f.step t (end_word (length ws)) ≡ ends → f.finish t ≡ Ok b → reading f (file ws) ≡ got b
+  reads_file ws t b way few end whole =
       let n : 0 + length ws ≡ length ws = omega arith in
       let low : end_word (length ws) < 2 ^ 32 = omega arith in
       let own : end_word (length ws) % 2 ^ 28 ≡ length ws = omega arith in
       ap (run f f.start 0) (bytes_append ws (end_word (length ws) ∷ []))
       ∙ along f.start 0 ws (bytes_of (end_word (length ws) ∷ [])) t way
       ∙ ap (λ k. run f t k (bytes_of (end_word (length ws) ∷ []))) n
-      ∙ run-four f t (length ws) _ _ _ _ []
+      ∙ run_four f t (length ws) _ _ _ _ []
       ∙ ap (λ x. after f t (length ws) x [] (f.step t x)) (word_of_bytes (end_word (length ws)) low)
       ∙ ap (after f t (length ws) (end_word (length ws)) []) end
       ∙ ap (λ x. cond x (closing (f.finish t) (length ws)) (stop WrongEnd (length ws))) (and_from _ _ (eq-eqb _ _ own) refl)

@@ -20,8 +20,8 @@ field_put below v above low width h k =
     ap (λ x. x / 2 ^ low) (add_comm below (2 ^ low * (v + 2 ^ width * above)) ∙ ap (λ x. x + below) (mul_comm (2 ^ low) (v + 2 ^ width * above))) ∙ shr_high (v + 2 ^ width * above) low below h in
     ap (λ x. x % 2 ^ width) (at ∙ add_comm v (2 ^ width * above) ∙ ap (λ x. x + v) (mul_comm (2 ^ width) above)) ∙ mod_low above width v k
 
-pub kind-put : (below k : ℕ) → below < 2 ^ 28 → kind (k * 2 ^ 28 + below) ≡ k
-kind-put below k h = shr_high k 28 below h
+pub kind_put : (below k : ℕ) → below < 2 ^ 28 → kind (k * 2 ^ 28 + below) ≡ k
+kind_put below k h = shr_high k 28 below h
 
 -- an example of use: a word with two fields and four unused bits is the sum of its parts
 sum_of_parts : (w : ℕ) → field w 24 4 ≡ 0 → w ≡ kind w * 2 ^ 28 + field w 12 12 * 2 ^ 12 + field w 0 12

@@ -20,19 +20,19 @@ module _ {S B : Type 0} (f : Format S B) where
   run_short s p (a ∷ b ∷ c ∷ []) h = refl
   run_short s p (a ∷ b ∷ c ∷ d ∷ rest) h = absurd (omega arith)
 
-  pub run-four : (s : S) (p a b c d : ℕ) (rest : List ℕ) → run f s p (a ∷ b ∷ c ∷ d ∷ rest) ≡ after f s p (word_of a b c d) rest (f.step s (word_of a b c d))
+  pub run_four : (s : S) (p a b c d : ℕ) (rest : List ℕ) → run f s p (a ∷ b ∷ c ∷ d ∷ rest) ≡ after f s p (word_of a b c d) rest (f.step s (word_of a b c d))
   unfolding run
-  run-four s p a b c d rest =
+  run_four s p a b c d rest =
       elim (f.step s (word_of a b c d)) as (λ st. elim st [ wrong r ↦ stop r p | more t ↦ run f t (p + 1) rest | ends ↦ ending (f.finish s) p (word_of a b c d) (is_nil rest) ] ≡ after f s p (word_of a b c d) rest st)
       [ wrong r ↦ refl | more t ↦ refl | ends ↦ refl ]
 
   -- what the next word does
-  pub run-word : (s : S) (p : ℕ) (bytes : List ℕ) → 4 ≤ length bytes → run f s p bytes ≡ after f s p (first_word bytes) (drop 4 bytes) (f.step s (first_word bytes))
-  run-word s p [] h = absurd (omega arith)
-  run-word s p (a ∷ []) h = absurd (omega arith)
-  run-word s p (a ∷ b ∷ []) h = absurd (omega arith)
-  run-word s p (a ∷ b ∷ c ∷ []) h = absurd (omega arith)
-  run-word s p (a ∷ b ∷ c ∷ d ∷ rest) h = run-four s p a b c d rest
+  pub run_word : (s : S) (p : ℕ) (bytes : List ℕ) → 4 ≤ length bytes → run f s p bytes ≡ after f s p (first_word bytes) (drop 4 bytes) (f.step s (first_word bytes))
+  run_word s p [] h = absurd (omega arith)
+  run_word s p (a ∷ []) h = absurd (omega arith)
+  run_word s p (a ∷ b ∷ []) h = absurd (omega arith)
+  run_word s p (a ∷ b ∷ c ∷ []) h = absurd (omega arith)
+  run_word s p (a ∷ b ∷ c ∷ d ∷ rest) h = run_four s p a b c d rest
 
 -- the place in a refusal
 abbrev placed : {B : Type 0} → Verdict B → ℕ
@@ -42,13 +42,13 @@ placed (stop r p) = p
 same_place : {B : Type 0} {r t : Refusal} {p q : ℕ} → ◌≡◌ {A = Verdict B} (stop r p) (stop t q) → p ≡ q
 same_place e = ap placed e
 
-ending-place : {B : Type 0} (whole : Result B Refusal) (p w : ℕ) (last : Bool) (r : Refusal) (q : ℕ) → ending whole p w last ≡ stop r q → p ≡ q
-ending-place (Ok b) p w last r q e =
+ending_place : {B : Type 0} (whole : Result B Refusal) (p w : ℕ) (last : Bool) (r : Refusal) (q : ℕ) → ending whole p w last ≡ stop r q → p ≡ q
+ending_place (Ok b) p w last r q e =
     elim (cases_Bool (eqb (w % 2 ^ 28) p && last)) [
       | inl t ↦ let z : ◌≡◌ {A = ℕ} 0 1 = cc (ap (λ t. cond t (closing (Ok b) p) (stop WrongEnd p)) t, e) in absurd (omega arith)
       | inr t ↦ same_place (sym (ap (λ t. cond t (closing (Ok b) p) (stop WrongEnd p)) t) ∙ e)
     ]
-ending-place {B} (Err k) p w last r q e =
+ending_place {B} (Err k) p w last r q e =
     elim (cases_Bool (eqb (w % 2 ^ 28) p && last)) [
       | inl t ↦ same_place {B = B} (sym (ap (λ t. cond t (closing (Err k) p) (stop WrongEnd p)) t) ∙ e)
       | inr t ↦ same_place {B = B} (sym (ap (λ t. cond t (closing (Err k) p) (stop WrongEnd p)) t) ∙ e)
@@ -67,13 +67,13 @@ module _ {S B : Type 0} (f : Format S B) where
 
   module _ (s : S) (p a b c d : ℕ) (rest : List ℕ) (r : Refusal) (q : ℕ) (e : run f s p (a ∷ b ∷ c ∷ d ∷ rest) ≡ stop r q) (below : (t : S) → run f t (p + 1) rest ≡ stop r q → RunsOut t (p + 1) rest q) where
     runs_out_four : (st : Step S) → f.step s (word_of a b c d) ≡ st → RunsOut s p (a ∷ b ∷ c ∷ d ∷ rest) q
-    runs_out_four (wrong k) is = runs_out_here s p (a ∷ b ∷ c ∷ d ∷ rest) q (same_place (sym (run-four f s p a b c d rest ∙ ap (after f s p (word_of a b c d) rest) is) ∙ e))
-    runs_out_four ends is = runs_out_here s p (a ∷ b ∷ c ∷ d ∷ rest) q (ending-place (f.finish s) p (word_of a b c d) (is_nil rest) r q (sym (run-four f s p a b c d rest ∙ ap (after f s p (word_of a b c d) rest) is) ∙ e))
+    runs_out_four (wrong k) is = runs_out_here s p (a ∷ b ∷ c ∷ d ∷ rest) q (same_place (sym (run_four f s p a b c d rest ∙ ap (after f s p (word_of a b c d) rest) is) ∙ e))
+    runs_out_four ends is = runs_out_here s p (a ∷ b ∷ c ∷ d ∷ rest) q (ending_place (f.finish s) p (word_of a b c d) (is_nil rest) r q (sym (run_four f s p a b c d rest ∙ ap (after f s p (word_of a b c d) rest) is) ∙ e))
     runs_out_four (more t) is =
-        let later = below t (sym (run-four f s p a b c d rest ∙ ap (after f s p (word_of a b c d) rest) is) ∙ e) in
+        let later = below t (sym (run_four f s p a b c d rest ∙ ap (after f s p (word_of a b c d) rest) is) ∙ e) in
         let up : p + 1 ≤ q = later.0 in
         let four : 4 * (q - p) ≡ suc (suc (suc (suc (4 * (q - (p + 1)))))) = omega arith in
-        (omega arith, ap (λ n. run f s p (take n (a ∷ b ∷ c ∷ d ∷ rest))) four ∙ run-four f s p a b c d (take (4 * (q - (p + 1))) rest) ∙ ap (after f s p (word_of a b c d) (take (4 * (q - (p + 1))) rest)) is ∙ later.1)
+        (omega arith, ap (λ n. run f s p (take n (a ∷ b ∷ c ∷ d ∷ rest))) four ∙ run_four f s p a b c d (take (4 * (q - (p + 1))) rest) ∙ ap (after f s p (word_of a b c d) (take (4 * (q - (p + 1))) rest)) is ∙ later.1)
 
   runs_out : (s : S) (p : ℕ) (bytes : List ℕ) (r : Refusal) (q : ℕ) → run f s p bytes ≡ stop r q → RunsOut s p bytes q
   unfolding run
@@ -84,22 +84,22 @@ module _ {S B : Type 0} (f : Format S B) where
   runs_out s p (a ∷ b ∷ c ∷ d ∷ rest) r q e = runs_out_four s p a b c d rest r q e (λ t h. runs_out t (p + 1) rest r q h) (f.step s (word_of a b c d)) refl
 
   -- a refusal's place is right
-  pub places-right : PlacesRight f
-  places-right bytes r p e =
+  pub places_right : PlacesRight f
+  places_right bytes r p e =
       let same : p - 0 ≡ p = omega arith in
       subst (λ n. run f f.start 0 (take (4 * n) bytes) ≡ stop CutOff p) same (runs_out f.start 0 bytes r p e).1
 
 -- one turn of a reader: what the word that was taken does
 pub turn : {S B : Type 0} (f : Format S B) (s : S) (p : ℕ) (left rest : List ℕ) (w : ℕ) (st : Step S) → (4 ≤ length left) × (w ≡ first_word left) × (rest ≡ drop 4 left) → st ≡ f.step s w → run f s p left ≡ after f s p w rest st
 turn f s p left rest w st (four, word, tail) is =
-    run-word f s p left four
+    run_word f s p left four
     ∙ ap (λ x. after f s p x (drop 4 left) (f.step s x)) (sym word)
     ∙ ap (λ l. after f s p w l (f.step s w)) (sym tail)
     ∙ ap (after f s p w rest) (sym is)
 
-nil-since : (rest : List ℕ) → length rest ≡ 0 → is_nil rest ≡ true
-nil-since [] h = refl
-nil-since (x ∷ rest) h = absurd (omega arith)
+nil_since : (rest : List ℕ) → length rest ≡ 0 → is_nil rest ≡ true
+nil_since [] h = refl
+nil_since (x ∷ rest) h = absurd (omega arith)
 
 some_since : (rest : List ℕ) → (length rest ≡ 0 → ⊥) → is_nil rest ≡ false
 some_since [] h = absurd (h refl)
@@ -107,10 +107,10 @@ some_since (x ∷ rest) h = refl
 
 -- an end word with the right number, and nothing after it
 pub right_end : {B : Type 0} (whole : Result B Refusal) (p w : ℕ) (rest : List ℕ) → w % 2 ^ 28 ≡ p → length rest ≡ 0 → ending whole p w (is_nil rest) ≡ closing whole p
-right_end whole p w rest own none = cond-true (eqb (w % 2 ^ 28) p && is_nil rest) (closing whole p) (stop WrongEnd p) (and_from (eqb (w % 2 ^ 28) p) (is_nil rest) (eq-eqb (w % 2 ^ 28) p own) (nil-since rest none))
+right_end whole p w rest own none = cond-true (eqb (w % 2 ^ 28) p && is_nil rest) (closing whole p) (stop WrongEnd p) (and_from (eqb (w % 2 ^ 28) p) (is_nil rest) (eq-eqb (w % 2 ^ 28) p own) (nil_since rest none))
 
-pub wrong-number : {B : Type 0} (whole : Result B Refusal) (p w : ℕ) (rest : List ℕ) → (w % 2 ^ 28 ≡ p → ⊥) → ending whole p w (is_nil rest) ≡ stop WrongEnd p
-wrong-number whole p w rest other = cond-false (eqb (w % 2 ^ 28) p && is_nil rest) (closing whole p) (stop WrongEnd p) (and_left (eqb (w % 2 ^ 28) p) (is_nil rest) (ne_eqb (w % 2 ^ 28) p other))
+pub wrong_number : {B : Type 0} (whole : Result B Refusal) (p w : ℕ) (rest : List ℕ) → (w % 2 ^ 28 ≡ p → ⊥) → ending whole p w (is_nil rest) ≡ stop WrongEnd p
+wrong_number whole p w rest other = cond-false (eqb (w % 2 ^ 28) p && is_nil rest) (closing whole p) (stop WrongEnd p) (and_left (eqb (w % 2 ^ 28) p) (is_nil rest) (ne_eqb (w % 2 ^ 28) p other))
 
-pub more-after : {B : Type 0} (whole : Result B Refusal) (p w : ℕ) (rest : List ℕ) → (length rest ≡ 0 → ⊥) → ending whole p w (is_nil rest) ≡ stop WrongEnd p
-more-after whole p w rest some = cond-false (eqb (w % 2 ^ 28) p && is_nil rest) (closing whole p) (stop WrongEnd p) (and_right (eqb (w % 2 ^ 28) p) (is_nil rest) (some_since rest some))
+pub more_after : {B : Type 0} (whole : Result B Refusal) (p w : ℕ) (rest : List ℕ) → (length rest ≡ 0 → ⊥) → ending whole p w (is_nil rest) ≡ stop WrongEnd p
+more_after whole p w rest some = cond-false (eqb (w % 2 ^ 28) p && is_nil rest) (closing whole p) (stop WrongEnd p) (and_right (eqb (w % 2 ^ 28) p) (is_nil rest) (some_since rest some))

@@ -36,13 +36,13 @@ pub all_below_from : (n : ℕ) (P : ℕ → Bool) → ((i : ℕ) → i < n → P
 all_below_from zero P h = refl
 all_below_from (suc n) P h = and_from (all_below n P) (P n) (all_below_from n P (λ i l. h i (omega arith))) (h n (omega arith))
 
-pub within-parts : (low high n : ℕ) → within low high n ≡ true → (low ≤ n) × (n ≤ high)
-within-parts low high n e =
+pub within_parts : (low high n : ℕ) → within low high n ≡ true → (low ≤ n) × (n ≤ high)
+within_parts low high n e =
     let parts = and_parts (leb low n) (leb n high) e in
     (leb-true low n parts.0, leb-true n high parts.1)
 
-pub within-from : (low high n : ℕ) → low ≤ n → n ≤ high → within low high n ≡ true
-within-from low high n h k = and_from (leb low n) (leb n high) (le-leb low n h) (le-leb n high k)
+pub within_from : (low high n : ℕ) → low ≤ n → n ≤ high → within low high n ≡ true
+within_from low high n h k = and_from (leb low n) (leb n high) (le-leb low n h) (le-leb n high k)
 
 wrong_is_not_more : {S : Type 0} {r : Refusal} {t : S} → wrong r ≡ more t → ⊥
 wrong_is_not_more e = let z : ◌≡◌ {A = ℕ} 0 1 = cc in omega arith
@@ -51,30 +51,30 @@ wrong_is_not_end : {S : Type 0} {r : Refusal} → ◌≡◌ {A = Step S} (wrong 
 wrong_is_not_end e = let z : ◌≡◌ {A = ℕ} 0 1 = cc in omega arith
 
 -- where a word was read, it passed the test
-pub check-more : {S : Type 0} (b : Bool) (r : Refusal) (next : Step S) (t : S) → check b r next ≡ more t → (b ≡ true) × (next ≡ more t)
-check-more true r next t e = (refl, e)
-check-more false r next t e = absurd (wrong_is_not_more e)
+pub check_more : {S : Type 0} (b : Bool) (r : Refusal) (next : Step S) (t : S) → check b r next ≡ more t → (b ≡ true) × (next ≡ more t)
+check_more true r next t e = (refl, e)
+check_more false r next t e = absurd (wrong_is_not_more e)
 
-pub check-ends : {S : Type 0} (b : Bool) (r : Refusal) (next : Step S) → check b r next ≡ ends → (b ≡ true) × (next ≡ ends)
-check-ends true r next e = (refl, e)
-check-ends false r next e = absurd (wrong_is_not_end e)
+pub check_ends : {S : Type 0} (b : Bool) (r : Refusal) (next : Step S) → check b r next ≡ ends → (b ≡ true) × (next ≡ ends)
+check_ends true r next e = (refl, e)
+check_ends false r next e = absurd (wrong_is_not_end e)
 
-pub check-passed : {S : Type 0} (b : Bool) (r : Refusal) (next : Step S) → b ≡ true → check b r next ≡ next
-check-passed true r next e = refl
-check-passed false r next e = let z : ◌≡◌ {A = ℕ} 0 1 = cc in absurd (omega arith)
+pub check_passed : {S : Type 0} (b : Bool) (r : Refusal) (next : Step S) → b ≡ true → check b r next ≡ next
+check_passed true r next e = refl
+check_passed false r next e = let z : ◌≡◌ {A = ℕ} 0 1 = cc in absurd (omega arith)
 
 pub require_ok : {X : Type 0} (b : Bool) (r : Refusal) (next : Result X Refusal) (x : X) → require b r next ≡ Ok x → (b ≡ true) × (next ≡ Ok x)
 require_ok true r next x e = (refl, e)
 require_ok false r next x e = let z : ◌≡◌ {A = ℕ} 0 1 = cc in absurd (omega arith)
 
-pub require-passed : {X : Type 0} (b : Bool) (r : Refusal) (next : Result X Refusal) → b ≡ true → require b r next ≡ next
-require-passed true r next e = refl
-require-passed false r next e = let z : ◌≡◌ {A = ℕ} 0 1 = cc in absurd (omega arith)
+pub require_passed : {X : Type 0} (b : Bool) (r : Refusal) (next : Result X Refusal) → b ≡ true → require b r next ≡ next
+require_passed true r next e = refl
+require_passed false r next e = let z : ◌≡◌ {A = ℕ} 0 1 = cc in absurd (omega arith)
 
-pub onto-more : {X S : Type 0} (said : Result X Refusal) (next : X → Step S) (t : S) → onto said next ≡ more t → (x : X) × ((said ≡ Ok x) × (next x ≡ more t))
-onto-more (Ok x) next t e = (x, (refl, e))
-onto-more (Err r) next t e = absurd (wrong_is_not_more e)
+pub onto_more : {X S : Type 0} (said : Result X Refusal) (next : X → Step S) (t : S) → onto said next ≡ more t → (x : X) × ((said ≡ Ok x) × (next x ≡ more t))
+onto_more (Ok x) next t e = (x, (refl, e))
+onto_more (Err r) next t e = absurd (wrong_is_not_more e)
 
-pub onto-ends : {X S : Type 0} (said : Result X Refusal) (next : X → Step S) → onto said next ≡ ends → (x : X) × ((said ≡ Ok x) × (next x ≡ ends))
-onto-ends (Ok x) next e = (x, (refl, e))
-onto-ends (Err r) next e = absurd (wrong_is_not_end e)
+pub onto_ends : {X S : Type 0} (said : Result X Refusal) (next : X → Step S) → onto said next ≡ ends → (x : X) × ((said ≡ Ok x) × (next x ≡ ends))
+onto_ends (Ok x) next e = (x, (refl, e))
+onto_ends (Err r) next e = absurd (wrong_is_not_end e)

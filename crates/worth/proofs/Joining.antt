@@ -1,5 +1,5 @@
 -- Joined values: they rise with the values of the targets, and those along a longer history are those of the histories.
--- For others: `joined_raises`, `joined_same`, `joined-along`, `held_raises` and `sum_raises`.
+-- For others: `joined_raises`, `joined_same`, `joined_along`, `held_raises` and `sum_raises`.
 use Rattle.std.proofs.Common.{◌≡◌, ℕ, suc, List, [], ◌∷◌, ◌++◌, map, ℤ, ◌+ℤ◌, ◌≤ℤ◌, refl, arith}
 use Rattle.std.specs.List.{ContainsAt as Has}
 use Rattle.std.proofs.lemmas.Int.{ints, clamps}
@@ -11,8 +11,8 @@ use Rattle.worth.specs.Worths.{joined_from}
 pub has_first : (t : ℕ) (ts : List ℕ) → Has (t ∷ ts) t
 has_first t ts = (0, omega arith, λ d. refl)
 
-pub has-later : (u : ℕ) (ts : List ℕ) (t : ℕ) → Has ts t → Has (u ∷ ts) t
-has-later u ts t (k, l, at) = (suc k, omega arith, at)
+pub has_later : (u : ℕ) (ts : List ℕ) (t : ℕ) → Has ts t → Has (u ∷ ts) t
+has_later u ts t (k, l, at) = (suc k, omega arith, at)
 
 pub held_raises : (x y : ℤ) → x ≤ℤ y → held x ≤ℤ held y
 held_raises x y h = omega (arith, ints, clamps)
@@ -26,7 +26,7 @@ joined_raises w law lower upper x y [] h each = h
 joined_raises w law lower upper x y (o ∷ os) h each =
     joined_raises w law lower upper (w.join x o.weight (lower o.target)) (w.join y o.weight (upper o.target)) os
     (law.raising x y o.weight (lower o.target) (upper o.target) h (each o.target (has_first o.target (targets_of os))))
-    (λ t has. each t (has-later o.target (targets_of os) t has))
+    (λ t has. each t (has_later o.target (targets_of os) t has))
 
 -- only the values of the targets count
 pub joined_same : (w : Weigh) (values others : ℕ → ℤ) (x y : ℤ) (os : List Outcome) → x ≡ y → ((t : ℕ) → Has (targets_of os) t → values t ≡ others t) → joined_from w values x os ≡ joined_from w others y os
@@ -34,9 +34,9 @@ joined_same w values others x y [] e each = e
 joined_same w values others x y (o ∷ os) e each =
     joined_same w values others (w.join x o.weight (values o.target)) (w.join y o.weight (others o.target)) os
     (λ i. w.join (e i) o.weight (each o.target (has_first o.target (targets_of os)) i))
-    (λ t has. each t (has-later o.target (targets_of os) t has))
+    (λ t has. each t (has_later o.target (targets_of os) t has))
 
 -- where outcomes lead to longer histories, the values joined are those of the longer histories
-pub joined-along : (w : Weigh) (value : ℕ → ℤ) (code : List ℕ → ℕ) (h : List ℕ) (x : ℤ) (os : List Outcome) → joined_from w value x (map (along code h) os) ≡ joined_from w (λ t. value (code (h ++ (t ∷ [])))) x os
-joined-along w value code h x [] = refl
-joined-along w value code h x (o ∷ os) = joined-along w value code h (w.join x o.weight (value (code (h ++ (o.target ∷ []))))) os
+pub joined_along : (w : Weigh) (value : ℕ → ℤ) (code : List ℕ → ℕ) (h : List ℕ) (x : ℤ) (os : List Outcome) → joined_from w value x (map (along code h) os) ≡ joined_from w (λ t. value (code (h ++ (t ∷ [])))) x os
+joined_along w value code h x [] = refl
+joined_along w value code h x (o ∷ os) = joined_along w value code h (w.join x o.weight (value (code (h ++ (o.target ∷ []))))) os

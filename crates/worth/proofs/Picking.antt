@@ -38,15 +38,15 @@ module _ (offers : ℕ → Bool) (values : ℕ → ℤ) where
   }
 
   -- the next action is offered
-  told-better : (n : ℕ) (o : Option Pick) → offers n ≡ true → Told n o → Told (suc n) (better o n (values n))
-  told-better n None t told = record {
+  told_better : (n : ℕ) (o : Option Pick) → offers n ≡ true → Told n o → Told (suc n) (better o n (values n))
+  told_better n None t told = record {
     inside = omega arith;
     offered = t;
     valued = refl;
     largest = λ a l s. ⊎_elim (λ below. absurd (told a below s)) (λ above. let e : a ≡ n = omega arith in subst (λ b. values b ≤ℤ values n) (sym e) (≤ℤ_refl (values n))) (cases_lt a n);
     lowest = λ a l s. absurd (told a l s);
   }
-  told-better n (Some p) t told =
+  told_better n (Some p) t told =
       cond_both (lt_z p.value (values n)) (Some (record { action = n; value = values n })) (Some p) (Told (suc n))
       (λ up.
       record {
@@ -69,7 +69,7 @@ module _ (offers : ℕ → Bool) (values : ℕ → ℤ) where
   told_below zero = λ a l t. omega arith
   told_below (suc n) =
       cond_both (offers n) (better (pick_below offers values n) n (values n)) (pick_below offers values n) (Told (suc n))
-      (λ t. told-better n (pick_below offers values n) t (told_below n))
+      (λ t. told_better n (pick_below offers values n) t (told_below n))
       (λ f. told_past n (pick_below offers values n) f (told_below n))
 
   pub pick_told : (n : ℕ) (p : Pick) → pick_below offers values n ≡ Some p → Picks offers values n p

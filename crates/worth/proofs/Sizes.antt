@@ -1,5 +1,5 @@
 -- Sizes of signed numbers, of discounts and of what a state earns by itself. For others: `held_small`, that a number of size at most
--- 2^59 is not held back; `abs_sum`, `abs_times`, `abs_min` and `abs_first`, sizes of sums, products and lesser numbers; `own-size`.
+-- 2^59 is not held back; `abs_sum`, `abs_times`, `abs_min` and `abs_first`, sizes of sums, products and lesser numbers; `own_size`.
 use Rattle.std.proofs.Common.{◌≡◌, ℕ, zero, suc, ◌+◌, ◌-◌, ◌*◌, ◌^◌, ◌≤◌, List, [], ◌∷◌, get_or, ℤ, pos, negsuc, ◌+ℤ◌, ◌*ℤ◌, neg_ℤ, nat_abs, refl, le_refl, mul_assoc, mul-le-mul, arith, lit≤}
 use Rattle.std.specs.Int.{int_min}
 use Rattle.std.specs.List.{AllByRecursion as All}
@@ -38,8 +38,8 @@ discount_below slot =
     get_or-below 256 discounts (lit≤ tt, (lit≤ tt, (lit≤ tt, (lit≤ tt, (lit≤ tt, (lit≤ tt, (lit≤ tt, (lit≤ tt, (lit≤ tt, (lit≤ tt, (lit≤ tt, (lit≤ tt, (lit≤ tt, tt))))))))))))) slot
 
 -- 256 times 2000 is the most that a state earns by itself, in units
-pub own-size : (w : Weigh) (horizon k : ℕ) (r : ℤ) → nat_abs r ≤ 2000 → nat_abs (own_part w discount_of horizon k r) ≤ w.unit ^ k * 512000
-own-size w horizon k r small =
+pub own_size : (w : Weigh) (horizon k : ℕ) (r : ℤ) → nat_abs r ≤ 2000 → nat_abs (own_part w discount_of horizon k r) ≤ w.unit ^ k * 512000
+own_size w horizon k r small =
     let times : nat_abs (own_part w discount_of horizon k r) ≡ w.unit ^ k * discount_of (horizon - k) * nat_abs r = abs_times (w.unit ^ k * discount_of (horizon - k)) r in
     let each : w.unit ^ k * discount_of (horizon - k) * nat_abs r ≤ w.unit ^ k * 256 * 2000 = mul-le-mul (mul-le-mul (le_refl (w.unit ^ k)) (discount_below (horizon - k))) small in
     let all : w.unit ^ k * 256 * 2000 ≡ w.unit ^ k * 512000 = mul_assoc (w.unit ^ k) 256 2000 in

@@ -6,7 +6,7 @@ use Rattle.sitelayout.specs.Layout.{site_format, site_words}
 use Rattle.sitelayout.proofs.Way.{site_faithful}
 use Rattle.writeout.specs.Book.{book_of}
 use Rattle.writeout.proofs.Closed.{Closed}
-use Rattle.writeout.proofs.Validity.{book-valid}
+use Rattle.writeout.proofs.Validity.{book_valid}
 
 pub book_reads_back : (m : Model) → Lawful m → (codes : List ℕ) → Closed m codes → reading site_format (file (site_words (book_of m codes))) ≡ got (book_of m codes)
-book_reads_back m law codes from = site_faithful.back (book_of m codes) (book-valid m law codes from)
+book_reads_back m law codes from = site_faithful.back (book_of m codes) (book_valid m law codes from)

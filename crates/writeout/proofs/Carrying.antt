@@ -1,54 +1,54 @@
--- The book that is written out unfolds, by its origins, whatever ground model the model unfolds: `book-carries`.
+-- The book that is written out unfolds, by its origins, whatever ground model the model unfolds: `book_carries`.
 use Rattle.std.proofs.Common.{◌≡◌, ℕ, ◌<◌, eqb, List, [], ◌∷◌, map, length, get_or, ℤ, sym, refl, ap, ◌∙◌, arith}
 use Rattle.std.specs.List.{ContainsAt as Has}
 use Rattle.std.proofs.lemmas.Bool.{lt-ltb}
 use Rattle.model.specs.declared.Outcome.{Outcome}
 use Rattle.model.specs.Histories.{final, History, along, Unfolds}
 use Rattle.model.specs.Models.{Model, Lawful}
-use Rattle.model.proofs.Paths.{one-over}
+use Rattle.model.proofs.Paths.{one_over}
 use Rattle.register.specs.Keys.{place_of}
 use Rattle.register.proofs.Keys.{place_of-get_or}
 use Rattle.sitebook.specs.Models.{outcome_of}
 use Rattle.writeout.specs.Book.{move_to, cell_of, book_of}
 use Rattle.writeout.specs.Copies.{Copies, by_origin, placed, CarriesOver}
-use Rattle.writeout.proofs.Closed.{Closed, eqb_decides, place-below, place-code}
-use Rattle.writeout.proofs.Copying.{book-cell, book-copies}
+use Rattle.writeout.proofs.Closed.{Closed, eqb_decides, place_below, place_code}
+use Rattle.writeout.proofs.Copying.{book_cell, book_copies}
 
 -- an outcome along a history leads to the place at which the longer history stands
-moves-along : (codes : List ℕ) (code : List ℕ → ℕ) (h : List ℕ) (os : List Outcome) → map outcome_of (map (move_to codes) (map (along code h) os)) ≡ map (along (placed codes code) h) os
-moves-along codes code h [] = refl
-moves-along codes code h (o ∷ os) = ap (λ l. along (placed codes code) h o ∷ l) (moves-along codes code h os)
+moves_along : (codes : List ℕ) (code : List ℕ → ℕ) (h : List ℕ) (os : List Outcome) → map outcome_of (map (move_to codes) (map (along code h) os)) ≡ map (along (placed codes code) h) os
+moves_along codes code h [] = refl
+moves_along codes code h (o ∷ os) = ap (λ l. along (placed codes code) h o ∷ l) (moves_along codes code h os)
 
 module _ (m : Model) (law : Lawful m) (codes : List ℕ) (from : Closed m codes) where
   module _ (g : Model) (code mask : List ℕ → ℕ) (reward : List ℕ → ℤ) (u : Unfolds g m code mask reward) where
     copies : Copies m codes (book_of m codes)
-    copies = book-copies m law codes from
+    copies = book_copies m law codes from
 
     -- each history stands at a listed state
-    stands-listed : (h : List ℕ) → History g h → Has codes (code h)
-    stands-listed h hist =
-        let up = one-over g m code mask reward u h hist in
+    stands_listed : (h : List ℕ) → History g h → Has codes (code h)
+    stands_listed h hist =
+        let up = one_over g m code mask reward u h hist in
         from.every (code h) (up.0, (up.1.0, up.1.1.1.0))
 
     below : (h : List ℕ) → History g h → placed codes code h < length codes
-    below h hist = place-below codes (code h) (stands-listed h hist)
+    below h hist = place_below codes (code h) (stands_listed h hist)
 
     -- which is listed at its place
     here : (h : List ℕ) → History g h → get_or codes (placed codes code h) 0 ≡ code h
-    here h hist = place-code codes (code h) (stands-listed h hist)
+    here h hist = place_code codes (code h) (stands_listed h hist)
 
     carried : Unfolds g (by_origin (book_of m codes)) (placed codes code) mask reward
     carried = record {
       first = ap (λ c. place_of eqb c codes) (u.first ∙ sym from.first) ∙ place_of-get_or eqb eqb_decides codes 0 0 from.once from.some;
       states = λ h hist. lt-ltb _ _ (omega (arith, below h hist, copies.states));
-      sites = λ h hist. copies.origins (placed codes code h) (below h hist) ∙ ap m.ground (here h hist) ∙ u.sites h hist;
+      sites = λ h hist. copies.origins (placed codes code h) (below h hist) ∙ ap m.site (here h hist) ∙ u.sites h hist;
       masks = λ h hist. copies.masks (placed codes code h) (below h hist) ∙ ap m.mask (here h hist) ∙ u.masks h hist;
       rewards = λ h hist. copies.rewards (placed codes code h) (below h hist) ∙ ap m.reward (here h hist) ∙ u.rewards h hist;
       offers = λ h hist a. copies.offers (placed codes code h) a (below h hist) ∙ ap (λ c. m.offered c a) (here h hist) ∙ u.offers h hist a;
       moves = λ h hist a.
-          ap (map outcome_of) (book-cell m law codes from (placed codes code h) a (below h hist) ∙ ap (λ c. cell_of m codes c a) (here h hist) ∙ ap (map (move_to codes)) (u.moves h hist a))
-          ∙ moves-along codes code h (g.outcomes (final h) a);
+          ap (map outcome_of) (book_cell m law codes from (placed codes code h) a (below h hist) ∙ ap (λ c. cell_of m codes c a) (here h hist) ∙ ap (map (move_to codes)) (u.moves h hist a))
+          ∙ moves_along codes code h (g.outcomes (final h) a);
     }
 
-  pub book-carries : CarriesOver m codes (book_of m codes)
-  book-carries g code mask reward u = carried g code mask reward u
+  pub book_carries : CarriesOver m codes (book_of m codes)
+  book_carries g code mask reward u = carried g code mask reward u

@@ -1,5 +1,5 @@
--- What a book is written from, and the places of what is listed. For others: `Closed`, and `place-below`, `place-code` and
--- `place-one` of the place of a listed code.
+-- What a book is written from, and the places of what is listed. For others: `Closed`, and `place_below`, `place_code` and
+-- `place_one` of the place of a listed code.
 use Rattle.std.proofs.Common.{◌≡◌, ℕ, ◌<◌, ◌≤◌, true, eqb, List, length, get_or, sym, refl, ap, ◌∙◌, ⊎_elim, arith}
 use Rattle.std.specs.List.{ContainsAt as Has}
 use Rattle.std.proofs.lemmas.Bool.{cases_lt, eq-eqb, eqb-true}
@@ -23,17 +23,17 @@ pub eqb_decides : Decides eqb
 eqb_decides = record { only = eqb-true; self = λ x. eq-eqb x x refl }
 
 -- a listed code has a place
-pub place-below : (codes : List ℕ) (c : ℕ) → Has codes c → place_of eqb c codes < length codes
-place-below codes c has =
+pub place_below : (codes : List ℕ) (c : ℕ) → Has codes c → place_of eqb c codes < length codes
+place_below codes c has =
     ⊎_elim
     (λ (h : place_of eqb c codes < length codes). h)
     (λ (h : length codes ≤ place_of eqb c codes). absurd (place_of_before eqb eqb_decides c codes has.0 0 (omega (arith, has.1)) (has.2 0)))
     (cases_lt (place_of eqb c codes) (length codes))
 
 -- and stands there
-pub place-code : (codes : List ℕ) (c : ℕ) → Has codes c → get_or codes (place_of eqb c codes) 0 ≡ c
-place-code codes c has = place_of_at eqb eqb_decides c codes 0 (place-below codes c has)
+pub place_code : (codes : List ℕ) (c : ℕ) → Has codes c → get_or codes (place_of eqb c codes) 0 ≡ c
+place_code codes c has = place_of_at eqb eqb_decides c codes 0 (place_below codes c has)
 
 -- so that different codes have different places
-pub place-one : (codes : List ℕ) (c d : ℕ) → Has codes c → Has codes d → place_of eqb c codes ≡ place_of eqb d codes → c ≡ d
-place-one codes c d hc hd e = sym (place-code codes c hc) ∙ ap (λ k. get_or codes k 0) e ∙ place-code codes d hd
+pub place_one : (codes : List ℕ) (c d : ℕ) → Has codes c → Has codes d → place_of eqb c codes ≡ place_of eqb d codes → c ≡ d
+place_one codes c d hc hd e = sym (place_code codes c hc) ∙ ap (λ k. get_or codes k 0) e ∙ place_code codes d hd

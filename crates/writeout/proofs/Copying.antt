@@ -1,4 +1,4 @@
--- The book that is written out says of each listed state what the model says: `book-copies`. For others too: `book-cell`.
+-- The book that is written out says of each listed state what the model says: `book_copies`. For others too: `book_cell`.
 use Rattle.std.proofs.Common.{◌≡◌, ℕ, suc, ◌+◌, ◌*◌, ◌<◌, ◌≤◌, true, false, not, ◌&&◌, ltb, List, [], ◌∷◌, map, length, get_or, ℤ, pos, ◌+ℤ◌, ◌-ℤ◌, nat_abs, sym, refl, ap, ◌∙◌, ⊎_elim, arith}
 use Rattle.std.specs.List.{ContainsAt as Has}
 use Rattle.std.proofs.ByRecursion.{has_get_or}
@@ -13,20 +13,20 @@ use Rattle.sitelayout.specs.declared.Move.{Move}
 use Rattle.sitebook.specs.Models.{blank, cell_at, outcome_of}
 use Rattle.writeout.specs.Book.{mark_of, move_to, cell_of, cells_of, book_of}
 use Rattle.writeout.specs.Copies.{meant, Copies}
-use Rattle.writeout.proofs.Closed.{Closed, place-code}
+use Rattle.writeout.proofs.Closed.{Closed, place_code}
 use Rattle.writeout.proofs.Cells.{cell_copied}
-use Rattle.writeout.proofs.Validity.{some-cell, book-valid}
+use Rattle.writeout.proofs.Validity.{some_cell, book_valid}
 
 -- a reward that was raised and lowered again
-reward-back : (r : ℤ) → nat_abs r ≤ 2000 → pos (nat_abs (r +ℤ pos 2000)) -ℤ pos 2000 ≡ r
-reward-back r h = omega (arith, ints)
+reward_back : (r : ℤ) → nat_abs r ≤ 2000 → pos (nat_abs (r +ℤ pos 2000)) -ℤ pos 2000 ≡ r
+reward_back r h = omega (arith, ints)
 
 -- outcomes that were put at places and read at them again
-moves-back : (codes : List ℕ) (os : List Outcome) → ((j : ℕ) (d : Outcome) → j < length os → Has codes (get_or os j d).target) → map (meant codes) (map outcome_of (map (move_to codes) os)) ≡ os
-moves-back codes [] has = refl
-moves-back codes (o ∷ os) has =
-    let here : meant codes (outcome_of (move_to codes o)) ≡ o = ap (λ (t : ℕ). record { target = t; weight = o.weight }) (place-code codes o.target (has 0 o (omega arith))) in
-    let rest = moves-back codes os (λ j d h. has (suc j) d (omega arith)) in
+moves_back : (codes : List ℕ) (os : List Outcome) → ((j : ℕ) (d : Outcome) → j < length os → Has codes (get_or os j d).target) → map (meant codes) (map outcome_of (map (move_to codes) os)) ≡ os
+moves_back codes [] has = refl
+moves_back codes (o ∷ os) has =
+    let here : meant codes (outcome_of (move_to codes o)) ≡ o = ap (λ (t : ℕ). record { target = t; weight = o.weight }) (place_code codes o.target (has 0 o (omega arith))) in
+    let rest = moves_back codes os (λ j d h. has (suc j) d (omega arith)) in
     cc
 
 module _ (m : Model) (law : Lawful m) (codes : List ℕ) (from : Closed m codes) where
@@ -45,8 +45,8 @@ module _ (m : Model) (law : Lawful m) (codes : List ℕ) (from : Closed m codes)
       (cases_Bool (m.offered c a))
 
   -- the cell of an action in a listed state
-  pub book-cell : (i a : ℕ) → i < length codes → cell_at (book_of m codes) i a ≡ cell_of m codes (get_or codes i 0) a
-  book-cell i a h =
+  pub book_cell : (i a : ℕ) → i < length codes → cell_at (book_of m codes) i a ≡ cell_of m codes (get_or codes i 0) a
+  book_cell i a h =
       ⊎_elim
       (λ (l : a < m.actions).
       cond-true (ltb i (length (map (mark_of m) codes)) && ltb a m.actions) (get_or (cells_of m codes codes) (i * m.actions + a) []) []
@@ -58,23 +58,23 @@ module _ (m : Model) (law : Lawful m) (codes : List ℕ) (from : Closed m codes)
       ∙ ap (λ os. map (move_to codes) os) (sym (past_none (get_or codes i 0) a l)))
       (cases_lt a m.actions)
 
-  cell-offers : (c a : ℕ) → not (none (cell_of m codes c a)) ≡ m.offered c a
-  cell-offers c a =
+  cell_offers : (c a : ℕ) → not (none (cell_of m codes c a)) ≡ m.offered c a
+  cell_offers c a =
       ⊎_elim
-      (λ (t : m.offered c a ≡ true). some-cell codes (m.outcomes c a) (law.some c a t) ∙ sym t)
+      (λ (t : m.offered c a ≡ true). some_cell codes (m.outcomes c a) (law.some c a t) ∙ sym t)
       (λ (f : m.offered c a ≡ false). ap (λ os. not (none (map (move_to codes) os))) (law.silent c a f) ∙ sym f)
       (cases_Bool (m.offered c a))
 
-  pub book-copies : Copies m codes (book_of m codes)
-  book-copies = record {
-    sound = book-valid m law codes from;
+  pub book_copies : Copies m codes (book_of m codes)
+  book_copies = record {
+    sound = book_valid m law codes from;
     states = size;
     labels = refl;
     actions = refl;
     start = from.first;
     masks = λ i h. ap (λ (k : Mark). k.mask) (mark_copied i h);
-    rewards = λ i h. ap (λ (k : Mark). pos k.raised -ℤ pos 2000) (mark_copied i h) ∙ reward-back (m.reward (get_or codes i 0)) (omega (arith, law.bounded (get_or codes i 0), law.modest));
+    rewards = λ i h. ap (λ (k : Mark). pos k.raised -ℤ pos 2000) (mark_copied i h) ∙ reward_back (m.reward (get_or codes i 0)) (omega (arith, law.bounded (get_or codes i 0), law.modest));
     origins = λ i h. ap (λ (k : Mark). k.origin) (mark_copied i h);
-    offers = λ i a h. ap (λ (c : List Move). not (none c)) (book-cell i a h) ∙ cell-offers (get_or codes i 0) a;
-    moves = λ i a h. ap (λ c. map (meant codes) (map outcome_of c)) (book-cell i a h) ∙ moves-back codes (m.outcomes (get_or codes i 0) a) (λ j d l. from.targets (get_or codes i 0) a j d (has_get_or codes i 0 h) l);
+    offers = λ i a h. ap (λ (c : List Move). not (none c)) (book_cell i a h) ∙ cell_offers (get_or codes i 0) a;
+    moves = λ i a h. ap (λ c. map (meant codes) (map outcome_of c)) (book_cell i a h) ∙ moves_back codes (m.outcomes (get_or codes i 0) a) (λ j d l. from.targets (get_or codes i 0) a j d (has_get_or codes i 0 h) l);
   }

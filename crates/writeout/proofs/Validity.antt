@@ -1,4 +1,4 @@
--- The book that is written out of listed states is valid: `book-valid`. For others too: `some-cell`, a cell of outcomes is not empty.
+-- The book that is written out of listed states is valid: `book_valid`. For others too: `some_cell`, a cell of outcomes is not empty.
 use Rattle.std.proofs.Common.{◌≡◌, ℕ, zero, suc, ◌+◌, ◌*◌, ◌^◌, ◌<◌, ◌≤◌, Bool, true, false, not, eqb, List, [], ◌∷◌, map, length, get_or, ℤ, pos, ◌+ℤ◌, nat_abs, sym, refl, ap, ◌∙◌, ⊎_elim, add-zero, arith}
 use Rattle.std.specs.List.{ContainsAt as Has, AllByRecursion as All}
 use Rattle.std.proofs.ByRecursion.{has_get_or, all_has_itself}
@@ -10,11 +10,11 @@ use Rattle.model.specs.Models as models
 use Rattle.model.specs.Models.{Model, Lawful}
 use Rattle.register.specs.Keys.{place_of}
 use Rattle.words.specs.Tests.{all, none}
-use Rattle.words.proofs.Tests.{all_push, all_append, all_below_from, within-from}
+use Rattle.words.proofs.Tests.{all_push, all_append, all_below_from, within_from}
 use Rattle.sitelayout.specs.declared.Move.{Move}
 use Rattle.sitelayout.specs.Site.{taken, apart, total, good_mark, good_move, good_cell, valid}
 use Rattle.writeout.specs.Book.{mark_of, move_to, cell_of, cells_below, cells_of, book_of}
-use Rattle.writeout.proofs.Closed.{Closed, place-below, place-one}
+use Rattle.writeout.proofs.Closed.{Closed, place_below, place_one}
 use Rattle.writeout.proofs.Cells.{length-cells, cell_copied}
 
 -- tests of lists, from their places
@@ -39,18 +39,18 @@ apart_from (m ∷ ms) d h =
 raised_small : (r : ℤ) → nat_abs r ≤ 2000 → nat_abs (r +ℤ pos 2000) ≤ 4000
 raised_small r h = omega (arith, ints)
 
-total-moves : (codes : List ℕ) (os : List Outcome) → total (map (move_to codes) os) ≡ models.total os
-total-moves codes [] = refl
-total-moves codes (o ∷ os) = ap (λ n. o.weight + n) (total-moves codes os)
+total_moves : (codes : List ℕ) (os : List Outcome) → total (map (move_to codes) os) ≡ models.total os
+total_moves codes [] = refl
+total_moves codes (o ∷ os) = ap (λ n. o.weight + n) (total_moves codes os)
 
 weight_of_total : (os : List Outcome) (j : ℕ) (d : Outcome) → j < length os → (get_or os j d).weight ≤ models.total os
 weight_of_total [] j d h = absurd (omega arith)
 weight_of_total (o ∷ os) zero d h = omega arith
 weight_of_total (o ∷ os) (suc j) d h = omega (arith, weight_of_total os j d (omega arith))
 
-pub some-cell : (codes : List ℕ) (os : List Outcome) → 1 ≤ length os → not (none (map (move_to codes) os)) ≡ true
-some-cell codes [] h = absurd (omega arith)
-some-cell codes (o ∷ os) h = refl
+pub some_cell : (codes : List ℕ) (os : List Outcome) → 1 ≤ length os → not (none (map (move_to codes) os)) ≡ true
+some_cell codes [] h = absurd (omega arith)
+some_cell codes (o ∷ os) h = refl
 
 stay : Outcome
 stay = record { target = 0; weight = 0 }
@@ -60,11 +60,11 @@ module _ (m : Model) (law : Lawful m) (codes : List ℕ) (from : Closed m codes)
   mark_good c =
       and_from _ _ (lt-ltb (m.mask c) (2 ^ m.labels) (law.labelled c))
       (and_from _ _ (le-leb (mark_of m c).raised 4000 (raised_small (m.reward c) (omega (arith, law.bounded c, law.modest))))
-      (lt-ltb (m.ground c) 4096 (law.grounded c)))
+      (lt-ltb (m.site c) 4096 (law.grounded c)))
 
-  marks-good : (cs : List ℕ) → all (good_mark m.labels) (map (mark_of m) cs) ≡ true
-  marks-good [] = refl
-  marks-good (c ∷ cs) = and_from (good_mark m.labels (mark_of m c)) _ (mark_good c) (marks-good cs)
+  marks_good : (cs : List ℕ) → all (good_mark m.labels) (map (mark_of m) cs) ≡ true
+  marks_good [] = refl
+  marks_good (c ∷ cs) = and_from (good_mark m.labels (mark_of m c)) _ (mark_good c) (marks_good cs)
 
   -- the outcomes of an offered action in a listed state
   module _ (c a : ℕ) (has : Has codes c) (off : m.offered c a ≡ true) where
@@ -75,47 +75,47 @@ module _ (m : Model) (law : Lawful m) (codes : List ℕ) (from : Closed m codes)
     move_good j h =
         let o = get_or (m.outcomes c a) j stay in
         and_from _ _
-        (lt-ltb (place_of eqb o.target codes) (length codes) (place-below codes o.target (from.targets c a j stay has h)))
-        (within-from 1 8 o.weight (law.weighed c a j stay h) (omega (arith, weight_of_total (m.outcomes c a) j stay h, law.whole c a off)))
+        (lt-ltb (place_of eqb o.target codes) (length codes) (place_below codes o.target (from.targets c a j stay has h)))
+        (within_from 1 8 o.weight (law.weighed c a j stay h) (omega (arith, weight_of_total (m.outcomes c a) j stay h, law.whole c a off)))
 
-    moves-good : all (good_move (length codes)) (cell_of m codes c a) ≡ true
-    moves-good =
+    moves_good : all (good_move (length codes)) (cell_of m codes c a) ≡ true
+    moves_good =
         all_from (good_move (length codes)) (cell_of m codes c a) (move_to codes stay) (λ j h.
         let l : j < length (m.outcomes c a) = omega (arith, length-map (m.outcomes c a) (move_to codes)) in
         ap (good_move (length codes)) (at_cell j l) ∙ move_good j l)
 
-    moves-apart : apart (cell_of m codes c a) ≡ true
-    moves-apart =
+    moves_apart : apart (cell_of m codes c a) ≡ true
+    moves_apart =
         apart_from (cell_of m codes c a) (move_to codes stay) (λ j k l h e.
         let size : length (cell_of m codes c a) ≡ length (m.outcomes c a) = length-map (m.outcomes c a) (move_to codes) in
         let hj : j < length (m.outcomes c a) = omega arith in
         let hk : k < length (m.outcomes c a) = omega arith in
         let places = sym (ap (λ (x : Move). x.target) (at_cell j hj)) ∙ e ∙ ap (λ (x : Move). x.target) (at_cell k hk) in
-        let same : j ≡ k = law.apart c a j k stay hj hk (place-one codes _ _ (from.targets c a j stay has hj) (from.targets c a k stay has hk) places) in
+        let same : j ≡ k = law.apart c a j k stay hj hk (place_one codes _ _ (from.targets c a j stay has hj) (from.targets c a k stay has hk) places) in
         absurd (omega arith))
 
-    offered-good : good_cell (length codes) (cell_of m codes c a) ≡ true
-    offered-good =
+    offered_good : good_cell (length codes) (cell_of m codes c a) ≡ true
+    offered_good =
         or_right (none (cell_of m codes c a)) _
         (and_from _ _ (le-leb (length (cell_of m codes c a)) 8 (omega (arith, length-map (m.outcomes c a) (move_to codes), law.few c a)))
-        (and_from _ _ moves-good
-        (and_from _ _ moves-apart
-        (eq-eqb (total (cell_of m codes c a)) 8 (total-moves codes (m.outcomes c a) ∙ law.whole c a off)))))
+        (and_from _ _ moves_good
+        (and_from _ _ moves_apart
+        (eq-eqb (total (cell_of m codes c a)) 8 (total_moves codes (m.outcomes c a) ∙ law.whole c a off)))))
 
-  cell-good : (c a : ℕ) → Has codes c → good_cell (length codes) (cell_of m codes c a) ≡ true
-  cell-good c a has =
+  cell_good : (c a : ℕ) → Has codes c → good_cell (length codes) (cell_of m codes c a) ≡ true
+  cell_good c a has =
       ⊎_elim
-      (λ (t : m.offered c a ≡ true). offered-good c a has t)
+      (λ (t : m.offered c a ≡ true). offered_good c a has t)
       (λ (f : m.offered c a ≡ false). ap (λ os. good_cell (length codes) (map (move_to codes) os)) (law.silent c a f))
       (cases_Bool (m.offered c a))
 
-  below-good : (c n : ℕ) → Has codes c → all (good_cell (length codes)) (cells_below m codes c n) ≡ true
-  below-good c zero has = refl
-  below-good c (suc n) has = all_push (good_cell (length codes)) (cells_below m codes c n) (cell_of m codes c n) (below-good c n has) (cell-good c n has)
+  below_good : (c n : ℕ) → Has codes c → all (good_cell (length codes)) (cells_below m codes c n) ≡ true
+  below_good c zero has = refl
+  below_good c (suc n) has = all_push (good_cell (length codes)) (cells_below m codes c n) (cell_of m codes c n) (below_good c n has) (cell_good c n has)
 
-  cells-good : (cs : List ℕ) → All (Has codes) cs → all (good_cell (length codes)) (cells_of m codes cs) ≡ true
-  cells-good [] has = refl
-  cells-good (c ∷ cs) has = all_append (good_cell (length codes)) (cells_below m codes c m.actions) (cells_of m codes cs) (below-good c m.actions has.0) (cells-good cs has.1)
+  cells_good : (cs : List ℕ) → All (Has codes) cs → all (good_cell (length codes)) (cells_of m codes cs) ≡ true
+  cells_good [] has = refl
+  cells_good (c ∷ cs) has = all_append (good_cell (length codes)) (cells_below m codes c m.actions) (cells_of m codes cs) (below_good c m.actions has.0) (cells_good cs has.1)
 
   -- action 0 is offered in every listed state
   waits_at : (s : ℕ) → s < length codes → not (none (get_or (cells_of m codes codes) (s * m.actions) [])) ≡ true
@@ -124,15 +124,15 @@ module _ (m : Model) (law : Lawful m) (codes : List ℕ) (from : Closed m codes)
       let at : get_or (cells_of m codes codes) (s * m.actions) [] ≡ cell_of m codes (get_or codes s 0) 0 =
       ap (λ k. get_or (cells_of m codes codes) k []) (sym (add-zero (s * m.actions))) ∙ cell_copied m codes s 0 h law.acts.0 in
       ap (λ (x : List Move). not (none x)) at
-      ∙ some-cell codes (m.outcomes c 0) (law.some c 0 (law.waits c (from.states c (has_get_or codes s 0 h))))
+      ∙ some_cell codes (m.outcomes c 0) (law.some c 0 (law.waits c (from.states c (has_get_or codes s 0 h))))
 
-  pub book-valid : valid (book_of m codes) ≡ true
-  book-valid =
+  pub book_valid : valid (book_of m codes) ≡ true
+  book_valid =
       let size : length (map (mark_of m) codes) ≡ length codes = length-map codes (mark_of m) in
-      and_from _ _ (within-from 1 4096 (length (map (mark_of m) codes)) (omega (arith, from.some)) (omega (arith, from.few)))
+      and_from _ _ (within_from 1 4096 (length (map (mark_of m) codes)) (omega (arith, from.some)) (omega (arith, from.few)))
       (and_from _ _ (le-leb m.labels 24 law.narrow)
-      (and_from _ _ (within-from 1 8 m.actions law.acts.0 law.acts.1)
-      (and_from _ _ (marks-good codes)
+      (and_from _ _ (within_from 1 8 m.actions law.acts.0 law.acts.1)
+      (and_from _ _ (marks_good codes)
       (and_from _ _ (eq-eqb (length (cells_of m codes codes)) (length (map (mark_of m) codes) * m.actions) (length-cells m codes codes ∙ ap (λ n. n * m.actions) (sym size)))
-      (and_from _ _ (ap (λ n. all (good_cell n) (cells_of m codes codes)) size ∙ cells-good codes (all_has_itself codes))
+      (and_from _ _ (ap (λ n. all (good_cell n) (cells_of m codes codes)) size ∙ cells_good codes (all_has_itself codes))
       (all_below_from (length (map (mark_of m) codes)) (λ s. not (none (get_or (cells_of m codes codes) (s * m.actions) []))) (λ s h. waits_at s (omega arith))))))))

@@ -24,14 +24,14 @@ cells-append actions k (x ∷ xs) ys =
     ∙ sym (append_assoc (cell_word actions k x) (cell_words actions (k + 1) xs) (cell_words actions (k + suc (length xs)) ys))
 
 -- an action that is offered
-pub cell-said : (actions k : ℕ) (ms : List Move) → 0 < length ms → cell_word actions k ms ≡ word_of_entry (k / actions) (k % actions) (length ms) ∷ move_words ms
-cell-said actions k [] l = absurd (omega arith)
-cell-said actions k (m ∷ ms) l = refl
+pub cell_said : (actions k : ℕ) (ms : List Move) → 0 < length ms → cell_word actions k ms ≡ word_of_entry (k / actions) (k % actions) (length ms) ∷ move_words ms
+cell_said actions k [] l = absurd (omega arith)
+cell_said actions k (m ∷ ms) l = refl
 
 -- and one that is not
-pub cell-none : (actions k : ℕ) (ms : List Move) → length ms ≤ 0 → cell_word actions k ms ≡ []
-cell-none actions k [] l = refl
-cell-none actions k (m ∷ ms) l = absurd (omega arith)
+pub cell_none : (actions k : ℕ) (ms : List Move) → length ms ≤ 0 → cell_word actions k ms ≡ []
+cell_none actions k [] l = refl
+cell_none actions k (m ∷ ms) l = absurd (omega arith)
 
 pub below_length : (m : Model) (codes : List ℕ) (c n : ℕ) → length (cells_below m codes c n) ≡ n
 below_length m codes c zero = refl
@@ -55,8 +55,8 @@ cells-length m codes [] = omega arith
 cells-length m codes (c ∷ cs) = omega (arith, length-append (cells_below m codes c m.actions) (cells_of m codes cs), below_length m codes c m.actions, cells-length m codes cs)
 
 -- one state more
-pub states-more : (m : Model) (codes xs : List ℕ) (c n : ℕ) → length xs ≡ n → cell_words m.actions 0 (cells_of m codes (xs ++ (c ∷ []))) ≡ cell_words m.actions 0 (cells_of m codes xs) ++ cell_words m.actions (n * m.actions) (cells_below m codes c m.actions)
-states-more m codes xs c n e =
+pub states_more : (m : Model) (codes xs : List ℕ) (c n : ℕ) → length xs ≡ n → cell_words m.actions 0 (cells_of m codes (xs ++ (c ∷ []))) ≡ cell_words m.actions 0 (cells_of m codes xs) ++ cell_words m.actions (n * m.actions) (cells_below m codes c m.actions)
+states_more m codes xs c n e =
     let at : 0 + length (cells_of m codes xs) ≡ n * m.actions = omega (arith, cells-length m codes xs, ap (λ k. k * m.actions) e) in
     ap (cell_words m.actions 0) (cells-push m codes xs c)
     ∙ cells-append m.actions 0 (cells_of m codes xs) (cells_below m codes c m.actions)
@@ -74,9 +74,9 @@ cell-length : (actions k : ℕ) (ms : List Move) → length (cell_word actions k
 cell-length actions k [] = omega arith
 cell-length actions k (m ∷ ms) = omega (arith, moves-length ms)
 
-below-small : (m : Model) → Lawful m → (codes : List ℕ) (c k n : ℕ) → length (cell_words m.actions k (cells_below m codes c n)) ≤ 9 * n
-below-small m law codes c k zero = omega arith
-below-small m law codes c k (suc n) =
+below_small : (m : Model) → Lawful m → (codes : List ℕ) (c k n : ℕ) → length (cell_words m.actions k (cells_below m codes c n)) ≤ 9 * n
+below_small m law codes c k zero = omega arith
+below_small m law codes c k (suc n) =
     let j = k + length (cells_below m codes c n) in
     omega (
       arith,
@@ -86,28 +86,28 @@ below-small m law codes c k (suc n) =
       cell-length m.actions (k + length (cells_below m codes c n)) (cell_of m codes c n),
       length-map (m.outcomes c n) (move_to codes),
       law.few c n,
-      below-small m law codes c k n,
+      below_small m law codes c k n,
     )
 
-states-small : (m : Model) → Lawful m → (codes cs : List ℕ) (k : ℕ) → length (cell_words m.actions k (cells_of m codes cs)) ≤ 72 * length cs
-states-small m law codes [] k = omega arith
-states-small m law codes (c ∷ cs) k =
+states_small : (m : Model) → Lawful m → (codes cs : List ℕ) (k : ℕ) → length (cell_words m.actions k (cells_of m codes cs)) ≤ 72 * length cs
+states_small m law codes [] k = omega arith
+states_small m law codes (c ∷ cs) k =
     omega (
       arith,
       ap length (cells-append m.actions k (cells_below m codes c m.actions) (cells_of m codes cs)),
       length-append (cell_words m.actions k (cells_below m codes c m.actions)) (cell_words m.actions (k + length (cells_below m codes c m.actions)) (cells_of m codes cs)),
-      below-small m law codes c k m.actions,
+      below_small m law codes c k m.actions,
       law.acts,
-      states-small m law codes cs (k + length (cells_below m codes c m.actions)),
+      states_small m law codes cs (k + length (cells_below m codes c m.actions)),
     )
 
 -- so few words that their number fits the end word
-pub book-small : (m : Model) → Lawful m → (codes : List ℕ) → length codes ≤ 4096 → length (site_words (book_of m codes)) < 2 ^ 28
-book-small m law codes few =
+pub book_small : (m : Model) → Lawful m → (codes : List ℕ) → length codes ≤ 4096 → length (site_words (book_of m codes)) < 2 ^ 28
+book_small m law codes few =
     omega (
       arith,
       length-append (mark_words (map (mark_of m) codes)) (cell_words m.actions 0 (cells_of m codes codes)),
       marks-length (map (mark_of m) codes),
       length-map codes (mark_of m),
-      states-small m law codes codes 0,
+      states_small m law codes codes 0,
     )

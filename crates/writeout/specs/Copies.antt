@@ -20,7 +20,7 @@ pub record Copies (m : Model) (codes : List ℕ) (b : Site) : Type 0 where
   pub start : slice_index_or codes 0 0 ≡ m.start
   pub masks : (i : ℕ) → i < length codes → (site_model b).mask i ≡ m.mask (slice_index codes i)
   pub rewards : (i : ℕ) → i < length codes → (site_model b).reward i ≡ m.reward (slice_index codes i)
-  pub origins : (i : ℕ) → i < length codes → origin_of b i ≡ m.ground (slice_index codes i)
+  pub origins : (i : ℕ) → i < length codes → origin_of b i ≡ m.site (slice_index codes i)
   pub offers : (i a : ℕ) → i < length codes → (site_model b).offered i a ≡ m.offered (slice_index codes i) a
   pub moves : (i a : ℕ) → i < length codes → map (meant codes) ((site_model b).outcomes i a) ≡ m.outcomes (slice_index codes i) a
 
@@ -31,7 +31,7 @@ by_origin b = record {
   state = (site_model b).state;
   mask = (site_model b).mask;
   reward = (site_model b).reward;
-  ground = origin_of b;
+  site = origin_of b;
   offered = (site_model b).offered;
   outcomes = (site_model b).outcomes;
   labels = (site_model b).labels;

@@ -3,8 +3,8 @@ use Rattle.codes.specs.Listed.{listed, room_in}
 use Rattle.register.specs.Keys.{enter, enter_all}
 use Rattle.reach.specs.Adding.{Onto}
 use Rattle.reach.specs.Search.{leads_to, codes_of}
-use Rattle.reach.proofs.Turns.{listed_start, codes-some}
-use Rattle.reach.proofs.Adding.{listed-length, onto-self, onto_both, onto-entered, onto_same, search_full, search_turn, search_turn_full, search_done, cleared_rest, cleared_room, cleared_none}
+use Rattle.reach.proofs.Turns.{listed_start, codes_some}
+use Rattle.reach.proofs.Adding.{listed-length, onto_self, onto_both, onto_entered, onto_same, search_full, search_turn, search_turn_full, search_done, cleared_rest, cleared_room, cleared_none}
 use Rattle.reach.proofs.search.Goals as goal
 
 pub returns-in-default : goal.returns-in-default
@@ -16,7 +16,7 @@ returns-in-default g c =
     let onto = onto_same c.clear.new.self c.enter.new.self told.answer.2 told.rest told.room told.lent in
     let none : room_in (length c.args.codes.now.table.now) ≡ 0 = ap (λ l. room_in (length l)) (sym c.clear.ensures.same) ∙ sym told.answer.1 ∙ ap length empty in
     record {
-      answer = search_full m law (room_in (length c.args.codes.now.table.now)) (listed c.enter.new.self) (omega (arith, none, codes-some m));
+      answer = search_full m law (room_in (length c.args.codes.now.table.now)) (listed c.enter.new.self) (omega (arith, none, codes_some m));
       rest = cleared_rest c.args.codes.now c.clear.new.self c.enter.new.self c.clear.ensures.same onto;
       room = cleared_room c.args.codes.now c.clear.new.self c.enter.new.self c.clear.ensures.same onto;
       lent = told.lent ∙ c.clear.ensures.lent;
@@ -28,7 +28,7 @@ loop-state-init g c =
     let told = c.in-Some.ensures in (
       told.answer.1 ∙ ap (enter eqb c.start.result) (cleared_none c.clear.new.self c.clear.ensures.empty) ∙ ap (λ s. enter eqb s []) c.start.ensures.start ∙ sym (listed_start m),
       omega arith,
-      onto-self c.enter.new.self,
+      onto_self c.enter.new.self,
     )
 
 pub returns-then-not-add_targets : goal.returns-then-not-add_targets
@@ -38,7 +38,7 @@ returns-then-not-add_targets g c =
     let start = c.in-Some.ensures in
     let told = c.if-not-add_targets.ensures in
     let at = c.in-Some-get.ensures in
-    let begun = onto-entered c.clear.new.self c.enter.new.self c.start.result start.answer.1 start.rest start.room start.lent in
+    let begun = onto_entered c.clear.new.self c.enter.new.self c.start.result start.answer.1 start.rest start.room start.lent in
     let before = onto_both c.clear.new.self c.enter.new.self c.loop-state.codes begun c.loop-state.invariant.2 in
     let all = onto_both c.clear.new.self c.loop-state.codes c.add_targets.new.codes before told.onto in
     let room = cleared_room c.args.codes.now c.clear.new.self c.loop-state.codes c.clear.ensures.same before in
@@ -72,7 +72,7 @@ returns g c =
     let m = g.M.SiteModel.meaning c.args.m.now in
     let law = g.met.M.SiteModel.lawful c.args.m.now in
     let start = c.in-Some.ensures in
-    let begun = onto-entered c.clear.new.self c.enter.new.self c.start.result start.answer.1 start.rest start.room start.lent in
+    let begun = onto_entered c.clear.new.self c.enter.new.self c.start.result start.answer.1 start.rest start.room start.lent in
     let all = onto_both c.clear.new.self c.enter.new.self c.loop-state.codes begun c.loop-state.invariant.2 in
     let room = cleared_room c.args.codes.now c.clear.new.self c.loop-state.codes c.clear.ensures.same all in
     record {

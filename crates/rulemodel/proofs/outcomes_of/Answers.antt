@@ -4,14 +4,14 @@ use Rattle.rulelayout.specs.declared.Effect.{Effect}
 use Rattle.rulelayout.specs.Rule.{total}
 use Rattle.rulemodel.specs.Meaning.{landing, Gathered}
 use Rattle.rulemodel.proofs.Gathering.{gathered}
-use Rattle.rulemodel.proofs.Turns.{grown, come, weight_below, total-more, total-front, too_heavy, all-light, place_is, all_held}
+use Rattle.rulemodel.proofs.Turns.{grown, come, weight_below, total_more, total_front, too_heavy, all_light, place_is, all_held}
 use Rattle.rulemodel.proofs.outcomes_of.Goals as goal
 use Rattle.rulemodel.proofs.outcomes_of.Goals.{then-place-len, else-place-len}
 
 pub returns-then-effect-sum : goal.returns-then-effect-sum
 returns-then-effect-sum c =
     let es = c.args.effects.now in
-    let heavy : 8 < total es = omega (arith, total-front es c.loop-effect.effect-index (record { set = 0; clear = 0; weight = 0 }) c.loop-effect-test.true) in
+    let heavy : 8 < total es = omega (arith, total_front es c.loop-effect.effect-index (record { set = 0; clear = 0; weight = 0 }) c.loop-effect-test.true) in
     record {
       outcomes = c.none-then-effect-sum.ensures ∙ sym (too_heavy c.args.s es heavy);
       gathered = λ few light. absurd (omega arith);
@@ -44,7 +44,7 @@ loop-effect-preserved c =
     let inv = c.loop-effect.invariant in
     let here = c.loop-effect-test.true in
     let at = place_is ways n c.land-target.result (landing s (get_or es i none)) c.place_of-place.result c.place_of-place.ensures c.land-target.ensures.landing in
-    let more = total-more es i none here in
+    let more = total_more es i none here in
     elim c.if-place-len.branch [
       | then-place-len w ↦
           let after = w.ways-is ∙ w.add_weight.ensures in (
@@ -76,6 +76,6 @@ returns c =
     let held = all_held s es i c.loop-effect.ways c.loop-effect.len _ inv.0 c.loop-effect-test.false inv.4 c.from_slice.ensures in
     let light : total es ≤ 8 = omega (arith, ap total (take_all i es c.loop-effect-test.false)) in
     record {
-      outcomes = held ∙ sym (all-light s es (omega arith) light);
+      outcomes = held ∙ sym (all_light s es (omega arith) light);
       gathered = λ few _. subst (Gathered s es) (sym held) (gathered s es);
     }

@@ -5,7 +5,7 @@ use Rattle.words.proofs.Reading.{after, run_short}
 use Rattle.sitelayout.specs.Layout.{site_format, whole_book}
 use Rattle.siteverdict.specs.Counting.{Judges}
 use Rattle.siteverdict.specs.Steps.{close_of}
-use Rattle.siteverdict.proofs.Tracking.{tracks_room, a_turn, track_close, nil-length}
+use Rattle.siteverdict.proofs.Tracking.{tracks_room, a_turn, track_close, nil_length}
 use Rattle.siteverdict.proofs.verdict.Goals as goal
 
 pub returns-in_default : goal.returns-in_default
@@ -22,7 +22,7 @@ returns-in-End c =
     let next = c.in-Some.next.now in
     let read = c.in-Some.ensures in
     let turn = a_turn c.loop-word.state d c.loop-word.rest.now next p w _ c.loop-word.invariant.1.1.0 read.0 read.1 read.2 c.in-End.ensures in
-    let whole = c.loop-word.invariant.1.1.1 ∙ turn.1 ∙ ap (after site_format d p w next) turn.0.0 ∙ ap (ending (whole_book d) p w) (sym (c.is_empty.ensures ∙ nil-length next)) in
+    let whole = c.loop-word.invariant.1.1.1 ∙ turn.1 ∙ ap (after site_format d p w next) turn.0.0 ∙ ap (ending (whole_book d) p w) (sym (c.is_empty.ensures ∙ nil_length next)) in
     subst (λ v. Judges c.close.result v) (sym whole)
     (subst (λ r. Judges r (ending (whole_book d) p w c.is_empty.result)) (sym c.close.ensures)
     (track_close c.in-End.table d w p c.is_empty.result turn.0.1))

@@ -1,7 +1,7 @@
 -- With no codes every bucket is empty.
 use Rattle.std.proofs.Common.{sym, refl, ◌∙◌, arith}
 use Rattle.std.proofs.lemmas.List.{get_or-replicate}
-use Rattle.codes.proofs.Latest.{latest-none}
+use Rattle.codes.proofs.Latest.{latest_none}
 use Rattle.codes.proofs.Codes.clear.Goals as goal
 
 pub invariant_of-self : goal.invariant_of-self
@@ -14,7 +14,7 @@ invariant_of-self c = (
       (
         λ i j d l. absurd (omega arith),
         (
-          λ b l. get_or-replicate 7919 b 0 0 l ∙ sym (latest-none c.args.self.now.table.now b),
+          λ b l. get_or-replicate 7919 b 0 0 l ∙ sym (latest_none c.args.self.now.table.now b),
           (λ p l. absurd (omega arith), tt),
         ),
       ),

@@ -1,7 +1,7 @@
 -- A new code comes last in the table, and first in its bucket.
 use Rattle.std.proofs.Common.{◌<◌, eqb, length, refl, ◌∙◌, arith}
 use Rattle.std.proofs.lemmas.List.{length-set, drop-set-lt}
-use Rattle.register.proofs.Table.{entered, written-distinct}
+use Rattle.register.proofs.Table.{entered, written_distinct}
 use Rattle.codes.proofs.Search.{eqb_decides}
 use Rattle.codes.proofs.Written.{heads_written, links_written}
 use Rattle.codes.proofs.Codes.enter.Goals as goal
@@ -20,7 +20,7 @@ invariant_of-self c =
         (
           omega arith,
           (
-            written-distinct eqb eqb_decides code xs n l c.in_default.ensures self.apart,
+            written_distinct eqb eqb_decides code xs n l c.in_default.ensures self.apart,
             (
               heads_written xs self.heads n code l self.sizes.0 self.last,
               (links_written xs self.heads self.earlier n code l l' self.last self.linked, tt),

@@ -1,7 +1,7 @@
 -- With no codes every bucket is empty.
 use Rattle.std.proofs.Common.{sym, refl, ◌∙◌, arith}
 use Rattle.std.proofs.lemmas.List.{get_or-replicate}
-use Rattle.codes.proofs.Latest.{latest-none}
+use Rattle.codes.proofs.Latest.{latest_none}
 use Rattle.codes.proofs.Codes.new.Goals as goal
 
 pub invariant_of-result : goal.invariant_of-result
@@ -14,7 +14,7 @@ invariant_of-result c = (
       (
         λ i j d l. absurd (omega arith),
         (
-          λ b l. get_or-replicate 7919 b 0 0 l ∙ sym (latest-none c.args.table.now b),
+          λ b l. get_or-replicate 7919 b 0 0 l ∙ sym (latest_none c.args.table.now b),
           (λ p l. absurd (omega arith), tt),
         ),
       ),

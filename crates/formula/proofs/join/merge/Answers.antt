@@ -1,6 +1,6 @@
 use Rattle.std.proofs.Common.{◌-◌, refl, ◌∙◌, inl, inr, ⊎_elim, arith, rules}
 use Rattle.formula.proofs.Faithful.{faithful}
-use Rattle.formula.proofs.Tables.{reached_none, place-small, reached_more, overfull, written}
+use Rattle.formula.proofs.Tables.{reached_none, place_small, reached_more, overfull, written}
 use Rattle.formula.proofs.join.merge.Goals as goal
 
 pub returns-then-words-gt128 : goal.returns-then-words-gt128
@@ -50,7 +50,7 @@ pub overflow_cast-numbers : goal.overflow_cast-numbers
 overflow_cast-numbers c =
     let inv = c.loop-i.invariant in
     let small =
-    place-small c.args.words.now c.new-register.result.keys.now c.loop-i.register.keys.now c.loop-i.register.len c.args.numbers.now c.loop-i.numbers c.loop-i.i
+    place_small c.args.words.now c.new-register.result.keys.now c.loop-i.register.keys.now c.loop-i.register.len c.args.numbers.now c.loop-i.numbers c.loop-i.i
     inv.0
     c.loop-i.register.fits
     c.loop-i-test.true

@@ -1,7 +1,7 @@
 use Rattle.std.proofs.Common.{refl, subst, inl, arith}
 use Rattle.formula.specs.Items.{items_below}
 use Rattle.formula.proofs.Chosen.{selected}
-use Rattle.formula.proofs.Puts.{Filled, put-more, next, refused-held, refused-failed, kept-all}
+use Rattle.formula.proofs.Puts.{Filled, put_more, next, refused_held, refused_failed, kept_all}
 use Rattle.formula.proofs.keep.keep_items.Goals as goal
 
 pub returns-then-nodes-gt128 : goal.returns-then-nodes-gt128
@@ -12,7 +12,7 @@ returns-in_err-len c =
     let back = c.looked_back-back.ensures c.loop-i.i (omega arith) in
     record {
       answer =
-          refused-held c.args.nodes.now c.args.marks.now c.loop-i.i _ c.loop-i-test.true c.marked-used.result _ c.keeps_held-held.result c.keeps_failed-failed.result
+          refused_held c.args.nodes.now c.args.marks.now c.loop-i.i _ c.loop-i-test.true c.marked-used.result _ c.keeps_held-held.result c.keeps_failed-failed.result
           c.marked-used.ensures
           back
           c.keeps_held-held.ensures
@@ -33,13 +33,13 @@ pub returns-in_err-len-2 : goal.returns-in_err-len-2
 returns-in_err-len-2 c =
     let back = c.looked_back-back.ensures c.loop-i.i (omega arith) in
     let first =
-    put-more c.args.items.now c.loop-i.items c.put.new.items (items_below c.args.nodes.now c.args.marks.now c.loop-i.i) _ c.loop-i.len c.in_ok-len.len
+    put_more c.args.items.now c.loop-i.items c.put.new.items (items_below c.args.nodes.now c.args.marks.now c.loop-i.i) _ c.loop-i.len c.in_ok-len.len
     c.loop-i.invariant
     c.in_ok-len.ensures
     c.put.auto.items in
     record {
       answer =
-          refused-failed c.args.nodes.now c.args.marks.now c.loop-i.i _ c.loop-i-test.true c.marked-used.result _ c.keeps_held-held.result c.keeps_failed-failed.result
+          refused_failed c.args.nodes.now c.args.marks.now c.loop-i.i _ c.loop-i-test.true c.marked-used.result _ c.keeps_held-held.result c.keeps_failed-failed.result
           c.marked-used.ensures
           back
           c.keeps_held-held.ensures
@@ -59,12 +59,12 @@ returns-in_err-len-2 c =
 pub loop-i-preserved : goal.loop-i-preserved
 loop-i-preserved c =
     let first =
-    put-more c.args.items.now c.loop-i.items c.put.new.items (items_below c.args.nodes.now c.args.marks.now c.loop-i.i) _ c.loop-i.len c.in_ok-len.len
+    put_more c.args.items.now c.loop-i.items c.put.new.items (items_below c.args.nodes.now c.args.marks.now c.loop-i.i) _ c.loop-i.len c.in_ok-len.len
     c.loop-i.invariant
     c.in_ok-len.ensures
     c.put.auto.items in
     let second =
-    put-more c.args.items.now c.put.new.items c.put-in-loop-i.new.items _ _ c.in_ok-len.len c.in_ok-len-2.len
+    put_more c.args.items.now c.put.new.items c.put-in-loop-i.new.items _ _ c.in_ok-len.len c.in_ok-len-2.len
     first
     c.in_ok-len-2.ensures
     c.put-in-loop-i.auto.items in
@@ -77,7 +77,7 @@ loop-i-preserved c =
 pub returns : goal.returns
 returns c = record {
   answer =
-      kept-all c.args.nodes.now c.args.marks.now c.args.items.now c.loop-i.items c.loop-i.len c.loop-i.i
+      kept_all c.args.nodes.now c.args.marks.now c.args.items.now c.loop-i.items c.loop-i.len c.loop-i.i
       c.if-nodes-gt128.false
       (omega arith)
       c.loop-i.invariant;

@@ -1,6 +1,6 @@
 use Rattle.std.proofs.Common.{◌+◌, ◌≤◌, length, drop, ap, ◌∙◌, arith}
 use Rattle.layer.specs.Layering.{amounts}
-use Rattle.layer.proofs.Counting.{amounts-more, amounts_end}
+use Rattle.layer.proofs.Counting.{amounts_more, amounts_end}
 use Rattle.layer.specs.Sizes.{take_few}
 use Rattle.layer.proofs.counts.amounts.Goals as goal
 
@@ -15,7 +15,7 @@ loop-wish-preserved c =
     let wishes = c.wishes-wish-items.result.now in
     let i = c.loop-wish.wish-index in (
       ap (λ n. c.loop-wish.total + n + amounts (drop (i + 1) wishes)) c.amount_size-total.ensures.value
-          ∙ amounts-more wishes c.loop-wish.total i _ c.loop-wish-test.true
+          ∙ amounts_more wishes c.loop-wish.total i _ c.loop-wish-test.true
           ∙ c.loop-wish.invariant.0,
       omega (arith, c.loop-wish.invariant.1, c.amount_size-total.ensures.small),
     )

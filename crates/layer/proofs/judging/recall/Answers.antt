@@ -1,6 +1,6 @@
 use Rattle.std.proofs.Common.{◌+◌, ◌/◌, false, ◌||◌, get_or, drop, ap, ◌∙◌, arith}
 use Rattle.layer.specs.Judging.{held_in, failed_in}
-use Rattle.layer.proofs.Entering.{held_more, failed-more, held_end, failed_end}
+use Rattle.layer.proofs.Entering.{held_more, failed_more, held_end, failed_end}
 use Rattle.layer.proofs.judging.recall.Goals as goal
 
 pub loop-item-preserved : goal.loop-item-preserved
@@ -14,7 +14,7 @@ loop-item-preserved c =
           ∙ c.loop-item.invariant.0 i h,
       λ i h.
           ap (λ t. get_or t i false || failed_in (drop (n + 1) items) (left / 2) i) c.recall_one.ensures.failed
-          ∙ failed-more items n left c.loop-item.failed i _ c.loop-item-test.true (omega (arith, c.loop-item.auto.failed))
+          ∙ failed_more items n left c.loop-item.failed i _ c.loop-item-test.true (omega (arith, c.loop-item.auto.failed))
           ∙ c.loop-item.invariant.1 i h,
     )
 

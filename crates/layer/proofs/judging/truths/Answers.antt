@@ -1,7 +1,7 @@
 use Rattle.std.proofs.Common.{◌≡◌, ◌-◌, length, take, sym, ap, ◌∙◌, arith}
 use Rattle.std.proofs.lemmas.List.{length-set}
 use Rattle.layer.specs.Tables.{tabled}
-use Rattle.layer.proofs.Entering.{verdicts-more, verdicts_end}
+use Rattle.layer.proofs.Entering.{verdicts_more, verdicts_end}
 use Rattle.layer.proofs.judging.truths.Goals as goal
 
 pub loop-i-preserved : goal.loop-i-preserved
@@ -9,7 +9,7 @@ loop-i-preserved c =
     let i = c.loop-i.i in
     let known = c.loop-i.known in
     let none : i - 0 ≡ i = omega arith in (
-      verdicts-more c.args.mask (tabled c.args.held.now c.args.failed.now) c.args.nodes.now known (take (i - 0) known) i _ c.verdict.result
+      verdicts_more c.args.mask (tabled c.args.held.now c.args.failed.now) c.args.nodes.now known (take (i - 0) known) i _ c.verdict.result
           c.loop-i-test.true
           (omega arith)
           (ap (λ n. take n known) none)

@@ -1,5 +1,5 @@
 use Rattle.std.proofs.Common.{refl, arith}
-use Rattle.pen.proofs.Laying.{put-more, put_short, put_full, with_word-length}
+use Rattle.pen.proofs.Laying.{put_more, put_short, put_full, with_word-length}
 use Rattle.pen.proofs.Pen.put.Goals as goal
 
 pub returns-then-self : goal.returns-then-self
@@ -20,7 +20,7 @@ returns-then-self-at-lt4 c = record {
 
 pub returns : goal.returns
 returns c = record {
-  laid = λ vs. put-more c.args.self.now.full c.if-self.false vs c.args.word c.args.self.now.words c.args.self.now.bytes.now (omega arith);
+  laid = λ vs. put_more c.args.self.now.full c.if-self.false vs c.args.word c.args.self.now.words c.args.self.now.bytes.now (omega arith);
   room = with_word-length c.args.self.now.bytes.now c.args.self.now.words c.args.word;
   lent = refl;
 }

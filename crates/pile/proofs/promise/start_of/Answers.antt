@@ -1,5 +1,5 @@
 use Rattle.std.proofs.Common.{sym, ap, ◌∙◌}
-use Rattle.layer.proofs.Bits.{memory-tells, wishes_show}
+use Rattle.layer.proofs.Bits.{memory_tells, wishes_show}
 use Rattle.pile.proofs.Keeping.{pile_keeps}
 use Rattle.pile.proofs.promise.start_of.Goals as goal
 
@@ -12,6 +12,6 @@ returns g c =
       start = c.start.ensures.start ∙ ap (λ m. m.start) (g.met.P.Pile.stands c.args.pile.now) ∙ sym keeps.unfolds.first;
       meaning = g.met.P.Pile.stands c.args.pile.now;
       keeps = keeps;
-      memory = memory-tells;
+      memory = memory_tells;
       wishes = wishes_show;
     }

@@ -1,6 +1,6 @@
 use Rattle.std.proofs.Common.{◌<◌, length, refl, arith}
 use Rattle.std.proofs.lemmas.List.{length-set, drop-set-lt}
-use Rattle.register.proofs.Table.{entered, written-distinct}
+use Rattle.register.proofs.Table.{entered, written_distinct}
 use Rattle.register.proofs.Register.enter.Goals as goal
 
 pub invariant_of-self : goal.invariant_of-self
@@ -10,7 +10,7 @@ invariant_of-self g c =
     let l : n < length xs = omega arith in
     record {
       fits = omega (arith, length-set xs n c.args.key);
-      apart = written-distinct g.K.Key.equals g.met.K.Key.decides c.args.key xs n l c.in_default.ensures c.args.self.now.apart;
+      apart = written_distinct g.K.Key.equals g.met.K.Key.decides c.args.key xs n l c.in_default.ensures c.args.self.now.apart;
     }
 
 pub returns : goal.returns

@@ -2,7 +2,7 @@ use Rattle.std.proofs.Common.{get_or, sym, arith}
 use Rattle.rulebook.specs.Acts.{act_from}
 use Rattle.rulebook.specs.Contents.{contents}
 use Rattle.rulebook.proofs.Tables.{acts-length}
-use Rattle.rulebook.proofs.Offers.{act_there, no_state, no_action, needs_unmet, needs-met}
+use Rattle.rulebook.proofs.Offers.{act_there, no_state, no_action, needs_unmet, needs_met}
 use Rattle.rulebook.proofs.ground.offered_action.Goals as goal
 
 pub returns-then-s-states : goal.returns-then-s-states
@@ -19,7 +19,7 @@ returns-then-meets c =
     let x = get_or book.acts c.args.a c.index-book-place.result in
     let long = acts-length book.len book.acts (omega arith) in
     let told = act_there book.len book.acts c.args.a c.index-book-place.result (omega arith) (omega arith) in
-    (needs-met (contents book) c.args.s c.args.a (act_from x) (omega arith) (omega arith) told (sym c.if-meets.ensures), told)
+    (needs_met (contents book) c.args.s c.args.a (act_from x) (omega arith) (omega arith) told (sym c.if-meets.ensures), told)
 
 pub returns-else-meets : goal.returns-else-meets
 returns-else-meets c =

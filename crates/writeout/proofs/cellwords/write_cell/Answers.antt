@@ -7,7 +7,7 @@ use Rattle.pen.proofs.Laying.{adds_none, adds_both}
 use Rattle.sitelayout.specs.Layout.{move_words, cell_word}
 use Rattle.sitelayout.specs.OneWord.{word_of_entry}
 use Rattle.writeout.specs.Book.{move_to, cell_of}
-use Rattle.writeout.proofs.Wording.{cell-said, cell-none}
+use Rattle.writeout.proofs.Wording.{cell_said, cell_none}
 use Rattle.writeout.proofs.cellwords.write_cell.Goals as goal
 
 pub entry_word-requires : goal.entry_word-requires
@@ -27,7 +27,7 @@ returns-then-len-gt0 g c =
     ap (λ n. word_of_entry c.args.place c.args.action n ∷ move_words cell) (sym size)
     ∙ ap (λ s. word_of_entry s c.args.action (length cell) ∷ move_words cell) (sym (div-mul-add c.args.place m.actions c.args.action c.requires.1))
     ∙ ap (λ a. word_of_entry (k / m.actions) a (length cell) ∷ move_words cell) (sym (mod-mul-add c.args.place m.actions c.args.action c.requires.1))
-    ∙ sym (cell-said m.actions k cell some) in
+    ∙ sym (cell_said m.actions k cell some) in
     let head : Adds (word_of_entry c.args.place c.args.action c.len-then-len-gt0.result ∷ []) c.args.pen.now c.put.new.self =
     subst (λ w. Adds (w ∷ []) c.args.pen.now c.put.new.self) c.entry_word.ensures c.put.ensures in
     let moves : Adds (move_words cell) c.put.new.self c.write_moves.new.pen =
@@ -41,4 +41,4 @@ returns-else-len-gt0 g c =
     let codes = listed c.args.codes.now in
     let k = c.args.place * m.actions + c.args.action in
     let none : length (cell_of m codes c.args.code c.args.action) ≤ 0 = omega (arith, length-map (m.outcomes c.args.code c.args.action) (move_to codes), c.len.ensures, ap length c.outcomes-outcomes.ensures.outcomes, c.if-len-gt0.false) in
-    subst (λ ws. Adds ws c.args.pen.now c.args.pen.now) (sym (cell-none m.actions k (cell_of m codes c.args.code c.args.action) none)) (adds_none c.args.pen.now)
+    subst (λ ws. Adds ws c.args.pen.now c.args.pen.now) (sym (cell_none m.actions k (cell_of m codes c.args.code c.args.action) none)) (adds_none c.args.pen.now)

@@ -6,7 +6,7 @@ use Rattle.pen.proofs.Laying.{adds_none, adds_both}
 use Rattle.reach.proofs.Adding.{listed-length}
 use Rattle.sitelayout.specs.Layout.{cell_words}
 use Rattle.writeout.specs.Book.{cells_below, cells_of}
-use Rattle.writeout.proofs.Wording.{states-more}
+use Rattle.writeout.proofs.Wording.{states_more}
 use Rattle.writeout.proofs.cellwords.write_cells.Goals as goal
 
 pub loop-code-init : goal.loop-code-init
@@ -24,7 +24,7 @@ loop-code-preserved g c =
     let at = c.in-Some.ensures in
     let more : cell_words m.actions 0 (cells_of m codes (take (i + 1) codes)) ≡ cell_words m.actions 0 (cells_of m codes (take i codes)) ++ cell_words m.actions (i * m.actions) (cells_below m codes c.in-Some.code m.actions) =
     ap (λ l. cell_words m.actions 0 (cells_of m codes l)) (take_more codes i 0 at.0 ∙ ap (λ x. take i codes ++ (x ∷ [])) (sym (at.1 0)))
-    ∙ states-more m codes (take i codes) c.in-Some.code i (length-take-le i codes c.loop-code.invariant.1) in (
+    ∙ states_more m codes (take i codes) c.in-Some.code i (length-take-le i codes c.loop-code.invariant.1) in (
       subst (λ ws. Adds ws c.args.pen.now c.write_state.new.pen) (sym more)
           (adds_both (cell_words m.actions 0 (cells_of m codes (take i codes))) (cell_words m.actions (i * m.actions) (cells_below m codes c.in-Some.code m.actions)) c.args.pen.now c.loop-code.pen c.write_state.new.pen c.loop-code.invariant.0 c.write_state.ensures),
       omega (arith, at.0),

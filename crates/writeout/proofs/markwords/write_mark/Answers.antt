@@ -15,7 +15,7 @@ reward-word-requires g c =
     let law = g.met.M.SiteModel.lawful c.args.m.now in
     let fits : SFits w32 c.reward.result = record { sfits = c.reward.type-inv } in
     let size = ap nat_abs (to_z-of_z w32 c.reward.result fits ∙ c.reward.ensures.reward) in
-    (omega (arith, size, law.bounded c.args.code, law.modest), omega (arith, c.ground.ensures.ground, law.grounded c.args.code))
+    (omega (arith, size, law.bounded c.args.code, law.modest), omega (arith, c.ground.ensures.site, law.grounded c.args.code))
 
 pub returns : goal.returns
 returns g c =
@@ -24,8 +24,8 @@ returns g c =
     let reward = to_z-of_z w32 c.reward.result fits ∙ c.reward.ensures.reward in
     let first : Adds (word_of_mask (m.mask c.args.code) ∷ []) c.args.pen.now c.put.new.self =
     subst (λ w. Adds (w ∷ []) c.args.pen.now c.put.new.self) (c.mask_word.ensures ∙ ap word_of_mask c.mask.ensures.mask) c.put.ensures in
-    let second : Adds (word_of_reward (nat_abs (m.reward c.args.code +ℤ pos 2000)) (m.ground c.args.code) ∷ []) c.put.new.self c.put-2.new.self =
+    let second : Adds (word_of_reward (nat_abs (m.reward c.args.code +ℤ pos 2000)) (m.site c.args.code) ∷ []) c.put.new.self c.put-2.new.self =
     subst (λ w. Adds (w ∷ []) c.put.new.self c.put-2.new.self)
-    (c.reward_word.ensures ∙ ap (λ r. word_of_reward (nat_abs (r +ℤ pos 2000)) c.ground.result) reward ∙ ap (word_of_reward (nat_abs (m.reward c.args.code +ℤ pos 2000))) c.ground.ensures.ground)
+    (c.reward_word.ensures ∙ ap (λ r. word_of_reward (nat_abs (r +ℤ pos 2000)) c.ground.result) reward ∙ ap (word_of_reward (nat_abs (m.reward c.args.code +ℤ pos 2000))) c.ground.ensures.site)
     c.put-2.ensures in
-    adds_both (word_of_mask (m.mask c.args.code) ∷ []) (word_of_reward (nat_abs (m.reward c.args.code +ℤ pos 2000)) (m.ground c.args.code) ∷ []) c.args.pen.now c.put.new.self c.put-2.new.self first second
+    adds_both (word_of_mask (m.mask c.args.code) ∷ []) (word_of_reward (nat_abs (m.reward c.args.code +ℤ pos 2000)) (m.site c.args.code) ∷ []) c.args.pen.now c.put.new.self c.put-2.new.self first second

@@ -3,7 +3,7 @@ use Rattle.codes.specs.Listed.{listed, room_in}
 use Rattle.reach.specs.Search.{codes_of}
 use Rattle.writeout.specs.Book.{book_of}
 use Rattle.writeout.specs.Tables.{words_in, WrittenIn}
-use Rattle.writeout.proofs.Booking.{codes-left, more_words_than_many, too_short, written_out}
+use Rattle.writeout.proofs.Booking.{codes_left, more_words_than_many, too_short, written_out}
 use Rattle.writeout.proofs.out.attempt.Goals as goal
 
 pub returns-then-not-search : goal.returns-then-not-search
@@ -27,7 +27,7 @@ returns-in-Some g c =
       answer = written_out m (length c.args.codes.now) (length c.args.bytes.now) c.len.result c.in-Some.words fits (c.len.ensures.len ∙ ap length same)
           (ap (λ l. words_in (length c.args.bytes.now) (book_of m l)) (sym same) ∙ sym book.count);
       tables = (
-        codes-left c.search.new.codes (codes_of m) c.args.codes.now _ same (told.rest ∙ ap (drop c.search.new.codes.len) table) c.requires (told.room ∙ ap length table) (search rules),
+        codes_left c.search.new.codes (codes_of m) c.args.codes.now _ same (told.rest ∙ ap (drop c.search.new.codes.len) table) c.requires (told.room ∙ ap length table) (search rules),
         subst (λ l. WrittenIn (Some c.in-Some.words) c.write_book.new.bytes (book_of m l)) same book.bytes,
       );
     }

@@ -3,7 +3,7 @@ use Rattle.reach.specs.Search.{codes_of}
 use Rattle.sitelayout.specs.Layout.{site_words}
 use Rattle.words.specs.Format.{file}
 use Rattle.writeout.specs.Tables.{out_book, outcome}
-use Rattle.writeout.proofs.Booking.{left-refused, left-codes, left_bytes, faithfully}
+use Rattle.writeout.proofs.Booking.{left_refused, left_codes, left_bytes, faithfully}
 use Rattle.writeout.proofs.out.write_out.Goals as goal
 
 pub returns-then-is-err : goal.returns-then-is-err
@@ -16,8 +16,8 @@ returns-then-is-err g c =
     let bytes : length c.attempt-answer.new.bytes ≡ length c.args.bytes.now = omega arith in
     record {
       answer = c.attempt-answer.ensures.answer ∙ ap (λ n. outcome m n (length c.args.bytes.now)) places;
-      codes = left-refused c.attempt-answer.result is (length c.args.codes.now) (codes_of m) _ (c.wipe-then-is_err.ensures ∙ ap (λ n. replicate n 0) codes);
-      bytes = left-refused c.attempt-answer.result is (length c.args.bytes.now) (file (site_words (out_book m))) _ (c.wipe-then-is_err-2.ensures ∙ ap (λ n. replicate n 0) bytes);
+      codes = left_refused c.attempt-answer.result is (length c.args.codes.now) (codes_of m) _ (c.wipe-then-is_err.ensures ∙ ap (λ n. replicate n 0) codes);
+      bytes = left_refused c.attempt-answer.result is (length c.args.bytes.now) (file (site_words (out_book m))) _ (c.wipe-then-is_err-2.ensures ∙ ap (λ n. replicate n 0) bytes);
       faithful = faithfully m law;
     }
 
@@ -29,7 +29,7 @@ returns-else-is-err g c =
     let places : length c.wipe.new.table ≡ length c.args.codes.now = omega arith in
     record {
       answer = c.attempt-answer.ensures.answer ∙ ap (λ n. outcome m n (length c.args.bytes.now)) places;
-      codes = left-codes m c.attempt-answer.result is c.attempt-answer.new.codes c.attempt-answer.new.bytes (length c.args.codes.now) (omega arith) c.attempt-answer.ensures.tables;
+      codes = left_codes m c.attempt-answer.result is c.attempt-answer.new.codes c.attempt-answer.new.bytes (length c.args.codes.now) (omega arith) c.attempt-answer.ensures.tables;
       bytes = left_bytes m c.attempt-answer.result is c.attempt-answer.new.codes c.attempt-answer.new.bytes (length c.args.bytes.now) (omega arith) c.attempt-answer.ensures.tables;
       faithful = faithfully m law;
     }

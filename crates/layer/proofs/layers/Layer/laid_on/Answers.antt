@@ -1,7 +1,7 @@
 use Rattle.std.proofs.Common.{◌≡◌, Some, None, ◌∙◌}
 use Rattle.wishbook.specs.Contents.{contents}
 use Rattle.layer.specs.Layering.{refusal}
-use Rattle.layer.proofs.Refusing.{refused_by_sizes, fits_unrefused, book-laid, over-laid, book-refused, over-refused}
+use Rattle.layer.proofs.Refusing.{refused_by_sizes, fits_unrefused, book_laid, over_laid, book_refused, over_refused}
 use Rattle.layer.proofs.layers.Layer.laid_on.Goals as goal
 
 pub returns-in-None-refuse : goal.returns-in-None-refuse
@@ -11,8 +11,8 @@ returns-in-None-refuse g c =
     let w = c.in-Some.book in
     let none : None ≡ refusal m (contents w) = c.in-None-refuse.ensures ∙ refused_by_sizes m (contents w) c.args.sizes c.requires in
     record {
-      book = book-laid m l.book w c.in-Some.is none;
-      meaning = (fits_unrefused m (contents w) none, over-laid m l.book w c.in-Some.is none);
+      book = book_laid m l.book w c.in-Some.is none;
+      meaning = (fits_unrefused m (contents w) none, over_laid m l.book w c.in-Some.is none);
     }
 
 pub returns-in-Some-refuse : goal.returns-in-Some-refuse
@@ -23,6 +23,6 @@ returns-in-Some-refuse g c =
     let r = c.in-Some-refuse.field-0 in
     let some : Some r ≡ refusal m (contents w) = c.in-Some-refuse.ensures ∙ refused_by_sizes m (contents w) c.args.sizes c.requires in
     record {
-      book = book-refused m l.book w r c.in-Some.is some;
-      meaning = over-refused m l.book w r c.in-Some.is some;
+      book = book_refused m l.book w r c.in-Some.is some;
+      meaning = over_refused m l.book w r c.in-Some.is some;
     }

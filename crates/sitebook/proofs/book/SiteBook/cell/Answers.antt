@@ -6,14 +6,14 @@ use Rattle.sitebook.specs.declared.book.SiteBook.{SiteBook}
 use Rattle.sitebook.specs.Contents.{contents}
 use Rattle.sitebook.specs.Models.{cell_at}
 use Rattle.sitebook.specs.Tables.{cut}
-use Rattle.sitebook.proofs.Tables.{cut_at, place-within}
+use Rattle.sitebook.proofs.Tables.{cut_at, place_within}
 use Rattle.sitebook.proofs.book.SiteBook.cell.Goals as goal
 
 -- both edges of an action's cell are stored
 edges : (b : SiteBook) (s a : ℕ) → s < vec_len b.marks → a < b.actions → s * b.actions + a + 1 < vec_len b.starts
 edges b s a hs ha =
     let h : s < length (vec_items b.marks) = omega (arith, b.marks.ok.0) in
-    omega (arith, b.starts.ok.0, place-within b.labels b.actions (vec_items b.marks) (vec_items b.starts) (vec_items b.moves) s a b.sound h ha)
+    omega (arith, b.starts.ok.0, place_within b.labels b.actions (vec_items b.marks) (vec_items b.starts) (vec_items b.moves) s a b.sound h ha)
 
 -- the cell lies between them
 between_edges : (b : SiteBook) (s a : ℕ) → s < vec_len b.marks → a < b.actions

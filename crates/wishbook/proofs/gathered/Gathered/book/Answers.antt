@@ -1,7 +1,7 @@
 use Rattle.std.proofs.Common.{◌-◌, length, take, refl, ap, ◌∙◌, arith, rules}
 use native.Mathlib.Nat.{sub-zero}
 use Rattle.wishbook.specs.Gathers.{nodes_in}
-use Rattle.wishbook.proofs.Whole.{always_merges, whole_tables, count-few, tables_sound, tables_remember, tables_few, tables_book, tables_over}
+use Rattle.wishbook.proofs.Whole.{always_merges, whole_tables, count_few, tables_sound, tables_remember, tables_few, tables_book, tables_over}
 use Rattle.wishbook.proofs.gathered.Gathered.book.Goals as goal
 
 pub returns-in_default : goal.returns-in_default
@@ -14,7 +14,7 @@ invariant_of-result c =
     let g = c.args.self.now in
     let t = whole_tables c.args.self.now c.in-Some.count c.rename_all-wishes.result c.in-Some.ensures.answer c.rename_all-wishes.ensures in
     let r = c.in-Some-remember.ensures in (
-      (search rules, count-few c.args.self.now c.merge.new.nodes c.in-Some.count c.rename_all-wishes.result t c.requires),
+      (search rules, count_few c.args.self.now c.merge.new.nodes c.in-Some.count c.rename_all-wishes.result t c.requires),
       (
         (search rules, g.few.3),
         (
