@@ -13,22 +13,15 @@ invariant_of-self c =
     let xs = self.table.now in
     let n = self.len in
     let l : n < length xs = omega arith in
-    let l' : n < length self.earlier = omega arith in (
-      (length-set self.heads _ _ ∙ self.sizes.0, length-set self.earlier _ _ ∙ self.sizes.1),
-      (
-        simp length-set (omega arith),
-        (
-          omega arith,
-          (
-            written_distinct eqb eqb_decides code xs n l c.in_default.ensures self.apart,
-            (
-              heads_written xs self.heads n code l self.sizes.0 self.last,
-              (links_written xs self.heads self.earlier n code l l' self.last self.linked, tt),
-            ),
-          ),
-        ),
-      ),
-    )
+    let l' : n < length self.earlier = omega arith in
+    record {
+      sizes = (length-set self.heads _ _ ∙ self.sizes.0, length-set self.earlier _ _ ∙ self.sizes.1);
+      fits = simp length-set (omega arith);
+      few = omega arith;
+      apart = written_distinct eqb eqb_decides code xs n l c.in_default.ensures self.apart;
+      last = heads_written xs self.heads n code l self.sizes.0 self.last;
+      linked = links_written xs self.heads self.earlier n code l l' self.last self.linked;
+    }
 
 pub returns : goal.returns
 returns c =

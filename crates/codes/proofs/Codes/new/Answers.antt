@@ -5,19 +5,11 @@ use Rattle.codes.proofs.Latest.{latest_none}
 use Rattle.codes.proofs.Codes.new.Goals as goal
 
 pub invariant_of-result : goal.invariant_of-result
-invariant_of-result c = (
-  (refl, refl),
-  (
-    omega arith,
-    (
-      omega arith,
-      (
-        λ i j d l. absurd (omega arith),
-        (
-          λ b l. get_or-replicate 7919 b 0 0 l ∙ sym (latest_none c.args.table.now b),
-          (λ p l. absurd (omega arith), tt),
-        ),
-      ),
-    ),
-  ),
-)
+invariant_of-result c = record {
+  sizes = (refl, refl);
+  fits = omega arith;
+  few = omega arith;
+  apart = λ i j d l. absurd (omega arith);
+  last = λ b l. get_or-replicate 7919 b 0 0 l ∙ sym (latest_none c.args.table.now b);
+  linked = λ p l. absurd (omega arith);
+}

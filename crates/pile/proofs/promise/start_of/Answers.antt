@@ -9,8 +9,8 @@ returns g c =
     let laws = g.met.P.Pile in
     let keeps = pile_keeps (g.P.Pile.base c.args.pile.now) (g.P.Pile.lawfully c.args.pile.now) (g.P.Pile.grounded c.args.pile.now) (g.P.Pile.floors c.args.pile.now) (g.P.Pile.sound c.args.pile.now) in
     record {
-      start = c.start.ensures.start ∙ ap (λ m. m.start) (g.met.P.Pile.stands c.args.pile.now) ∙ sym keeps.unfolds.first;
-      meaning = g.met.P.Pile.stands c.args.pile.now;
+      start = c.start.ensures.start ∙ ap (λ m. m.start) (g.P.Pile.stands c.args.pile.now) ∙ sym keeps.unfolds.first;
+      meaning = g.P.Pile.stands c.args.pile.now;
       keeps = keeps;
       memory = memory_tells;
       wishes = wishes_show;

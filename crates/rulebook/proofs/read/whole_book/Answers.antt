@@ -27,7 +27,11 @@ invariant_of-result c =
     let h = head_from c.args.table in
     let acts = list_from c.args.table in
     let first = first_told c.args.table c.index-acts-0.result c.requires ∙ sym c.if-not-needless.ensures in
-    (c.args.table.places, (c.args.table.fits, (sound_valid (whole h acts) (rule_of h acts) c.requires (test_passed (waits acts) NoWait (Ok (rule_of h acts)) first), tt)))
+    record {
+      places = c.args.table.places;
+      fits = c.args.table.fits;
+      sound = sound_valid (whole h acts) (rule_of h acts) c.requires (test_passed (waits acts) NoWait (Ok (rule_of h acts)) first);
+    }
 
 pub returns : goal.returns
 unfolding whole_rule

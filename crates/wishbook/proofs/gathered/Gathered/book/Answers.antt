@@ -13,19 +13,14 @@ pub invariant_of-result : goal.invariant_of-result
 invariant_of-result c =
     let g = c.args.self.now in
     let t = whole_tables c.args.self.now c.in-Some.count c.rename_all-wishes.result c.in-Some.ensures.answer c.rename_all-wishes.ensures in
-    let r = c.in-Some-remember.ensures in (
-      (search rules, count_few c.args.self.now c.merge.new.nodes c.in-Some.count c.rename_all-wishes.result t c.requires),
-      (
-        (search rules, g.few.3),
-        (
-          (search rules, r.0),
-          (
-            tables_sound c.args.self.now c.merge.new.nodes c.in-Some.count c.rename_all-wishes.result t c.requires,
-            (tables_remember c.args.self.now c.merge.new.nodes c.in-Some.count c.rename_all-wishes.result t c.requires c.remember.new.items c.in-Some-remember.kept r, tt),
-          ),
-        ),
-      ),
-    )
+    let r = c.in-Some-remember.ensures in
+    record {
+      numbered = (search rules, count_few c.args.self.now c.merge.new.nodes c.in-Some.count c.rename_all-wishes.result t c.requires);
+      listed = (search rules, g.few.3);
+      few = (search rules, r.0);
+      sound = tables_sound c.args.self.now c.merge.new.nodes c.in-Some.count c.rename_all-wishes.result t c.requires;
+      remembers = tables_remember c.args.self.now c.merge.new.nodes c.in-Some.count c.rename_all-wishes.result t c.requires c.remember.new.items c.in-Some-remember.kept r;
+    }
 
 pub returns-in-Some-remember : goal.returns-in-Some-remember
 returns-in-Some-remember c =
