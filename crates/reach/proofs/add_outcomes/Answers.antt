@@ -21,8 +21,8 @@ loop-way-preserved c =
       onto_both c.args.codes.now c.loop-way.codes c.enter.new.self c.loop-way.invariant.1 (onto_entered c.loop-way.codes c.enter.new.self _ told.answer.1 told.rest told.room told.lent),
     )
 
-pub returns-in-default : goal.returns-in-default
-returns-in-default c =
+pub returns-in_default : goal.returns-in_default
+returns-in_default c =
     let told = c.in_default.ensures in
     let os = c.as_slice-way-items.result.now in
     let i = c.loop-way.way-index in

@@ -7,8 +7,8 @@ use Rattle.reach.proofs.Turns.{listed_start, codes_some}
 use Rattle.reach.proofs.Adding.{listed-length, onto_self, onto_both, onto_entered, onto_same, search_full, search_turn, search_turn_full, search_done, cleared_rest, cleared_room, cleared_none}
 use Rattle.reach.proofs.search.Goals as goal
 
-pub returns-in-default : goal.returns-in-default
-returns-in-default g c =
+pub returns-in_default : goal.returns-in_default
+returns-in_default g c =
     let m = g.M.SiteModel.meaning c.args.m.now in
     let law = g.met.M.SiteModel.lawful c.args.m.now in
     let told = c.in_default.ensures in

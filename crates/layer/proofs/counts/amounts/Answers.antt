@@ -4,8 +4,8 @@ use Rattle.layer.proofs.Counting.{amounts_more, amounts_end}
 use Rattle.layer.specs.Sizes.{take_few}
 use Rattle.layer.proofs.counts.amounts.Goals as goal
 
-pub overflow-add-total : goal.overflow-add-total
-overflow-add-total c =
+pub overflow_add-total : goal.overflow_add-total
+overflow_add-total c =
     let b = c.args.book.now in
     let few : length c.wishes-wish-items.result.now ≤ 16 = omega (arith, ap length c.wishes-wish-items.ensures, take_few b.wished b.wishes b.listed.1) in
     omega (arith, c.loop-wish.invariant.1, c.amount_size-total.ensures.small)

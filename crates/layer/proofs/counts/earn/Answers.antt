@@ -5,10 +5,10 @@ use Rattle.layer.specs.Judging.{earned}
 use Rattle.layer.proofs.Counting.{earning_fits, earning_more, earning_past, earned_end}
 use Rattle.layer.specs.Sizes.{take_few}
 use Rattle.layer.proofs.counts.earn.Goals as goal
-use Rattle.layer.proofs.counts.earn.Goals.{then_at, else-at}
+use Rattle.layer.proofs.counts.earn.Goals.{then-at, else-at}
 
-pub overflow-add-total : goal.overflow-add-total
-overflow-add-total c =
+pub overflow_add-total : goal.overflow_add-total
+overflow_add-total c =
     let b = c.args.book.now in
     let few : length c.wishes-wish-items.result.now ≤ 16 = omega (arith, ap length c.wishes-wish-items.ensures, take_few b.wished b.wishes b.listed.1) in
     earning_fits _ _ c.amount-total.result c.wishes-wish-items.result.now c.args.truths.now c.loop-wish.wish-index c.loop-wish.invariant c.loop-wish-test.true few c.amount-total.ensures.small
@@ -19,7 +19,7 @@ loop-wish-preserved c =
     let ws = c.wishes-wish-items.result.now in
     let few : length ws ≤ 16 = omega (arith, ap length c.wishes-wish-items.ensures, take_few b.wished b.wishes b.listed.1) in
     elim c.if-at.branch [
-      | then_at w ↦ earning_more _ _ _ w.amount-total.result ws c.args.truths.now c.loop-wish.wish-index _ c.loop-wish.invariant c.loop-wish-test.true few w.amount-total.ensures.small w.amount-total.ensures.value w.total-is (sym w.if-at.ensures)
+      | then-at w ↦ earning_more _ _ _ w.amount-total.result ws c.args.truths.now c.loop-wish.wish-index _ c.loop-wish.invariant c.loop-wish-test.true few w.amount-total.ensures.small w.amount-total.ensures.value w.total-is (sym w.if-at.ensures)
       | else-at w ↦ earning_past _ _ _ ws c.args.truths.now c.loop-wish.wish-index _ c.loop-wish.invariant c.loop-wish-test.true w.total-is (sym w.if-at.ensures)
     ]
 

@@ -5,8 +5,8 @@ use Rattle.layer.proofs.Counting.{memory_more, memory_end, memory_room}
 use Rattle.layer.specs.Sizes.{take_few}
 use Rattle.layer.proofs.counts.remember.Goals as goal
 
-pub with-bit-memory-requires : goal.with-bit-memory-requires
-with-bit-memory-requires c =
+pub with_bit-memory-requires : goal.with_bit-memory-requires
+with_bit-memory-requires c =
     let items = c.items-items.result.now in
     let b = c.args.book.now in
     let few : length items ≤ 16 = omega (arith, ap length c.items-items.ensures, take_few b.kept b.items b.few.1) in

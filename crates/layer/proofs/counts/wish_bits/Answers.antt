@@ -5,15 +5,15 @@ use Rattle.layer.proofs.Counting.{wish_bits_more, wish_bits_end, wish_bits_room}
 use Rattle.layer.specs.Sizes.{take_few}
 use Rattle.layer.proofs.counts.wish_bits.Goals as goal
 
-pub with-bit-bits-requires : goal.with-bit-bits-requires
-with-bit-bits-requires c =
+pub with_bit-bits-requires : goal.with_bit-bits-requires
+with_bit-bits-requires c =
     let wishes = c.wishes-wishes.result.now in
     let b = c.args.book.now in
     let few : length wishes ≤ 16 = omega (arith, ap length c.wishes-wishes.ensures, take_few b.wished b.wishes b.listed.1) in
     omega (arith, c.loop-i.invariant, wish_bits_room wishes c.args.truths.now c.loop-i.i few)
 
-pub overflow-cast-result : goal.overflow-cast-result
-overflow-cast-result c =
+pub overflow_cast-result : goal.overflow_cast-result
+overflow_cast-result c =
     let wishes = c.wishes-wishes.result.now in
     let b = c.args.book.now in
     let few : length wishes ≤ 16 = omega (arith, ap length c.wishes-wishes.ensures, take_few b.wished b.wishes b.listed.1) in

@@ -10,8 +10,8 @@ pub mask_word-requires : goal.mask_word-requires
 mask_word-requires g c =
     omega (arith, c.mask.ensures.mask, mask_below (g.M.SiteModel.meaning c.args.m.now) (g.met.M.SiteModel.lawful c.args.m.now) c.args.code)
 
-pub reward-word-requires : goal.reward-word-requires
-reward-word-requires g c =
+pub reward_word-requires : goal.reward_word-requires
+reward_word-requires g c =
     let law = g.met.M.SiteModel.lawful c.args.m.now in
     let fits : SFits w32 c.reward.result = record { sfits = c.reward.type-inv } in
     let size = ap nat_abs (to_z-of_z w32 c.reward.result fits ∙ c.reward.ensures.reward) in

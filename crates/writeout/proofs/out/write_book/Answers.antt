@@ -22,8 +22,8 @@ returns-in_err-before g c =
       bytes = written_none c.from_residual.result c.from_residual.ensures _ (book_of m codes);
     }
 
-pub overflow-cast-before : goal.overflow-cast-before
-overflow-cast-before g c =
+pub overflow_cast-before : goal.overflow_cast-before
+overflow_cast-before g c =
     let m = g.M.SiteModel.meaning c.args.m.now in
     let codes = listed c.args.codes.now in
     let law = g.met.M.SiteModel.lawful c.args.m.now in
@@ -33,8 +33,8 @@ overflow-cast-before g c =
     let fits : c.in_ok-before.before < 2 ^ 28 = omega (arith, some.0, small) in
     omega arith
 
-pub overflow-add-before : goal.overflow-add-before
-overflow-add-before g c =
+pub overflow_add-before : goal.overflow_add-before
+overflow_add-before g c =
     let m = g.M.SiteModel.meaning c.args.m.now in
     let codes = listed c.args.codes.now in
     let law = g.met.M.SiteModel.lawful c.args.m.now in

@@ -6,8 +6,8 @@ use Rattle.writeout.specs.Tables.{out_book, outcome}
 use Rattle.writeout.proofs.Booking.{left_refused, left_codes, left_bytes, faithfully}
 use Rattle.writeout.proofs.out.write_out.Goals as goal
 
-pub returns-then-is-err : goal.returns-then-is-err
-returns-then-is-err g c =
+pub returns-then-is_err : goal.returns-then-is_err
+returns-then-is_err g c =
     let m = g.M.SiteModel.meaning c.args.m.now in
     let law = g.met.M.SiteModel.lawful c.args.m.now in
     let is = sym c.if-is_err.ensures.value in
@@ -21,8 +21,8 @@ returns-then-is-err g c =
       faithful = faithfully m law;
     }
 
-pub returns-else-is-err : goal.returns-else-is-err
-returns-else-is-err g c =
+pub returns-else-is_err : goal.returns-else-is_err
+returns-else-is_err g c =
     let m = g.M.SiteModel.meaning c.args.m.now in
     let law = g.met.M.SiteModel.lawful c.args.m.now in
     let is = sym c.if-is_err.ensures.value in
