@@ -1,8 +1,8 @@
 -- A pile is a ground model with floors laid on it, one after another. What a history of the ground model shows and earns on a pile is
 -- said by the truth lines, floor by floor: an upper book reads the wishes below it as labels.
-use Rattle.std.specs.Prelude.{ℕ, Bool, cond, List, [], ◌∷◌, ℤ, Some, None, Option}
+use Rattle.std.specs.Prelude.{◌≡◌, ℕ, Bool, cond, List, [], ◌∷◌, ℤ, Some, None, Option}
 use Rattle.model.specs.Histories.{final, Unfolds, OnePathAbove}
-use Rattle.model.specs.Models.{Model}
+use Rattle.model.specs.Models.{Model, Lawful, Ground}
 use Rattle.wishbook.specs.Book.{Book}
 use Rattle.layer.specs.Layering.{fits, over}
 use Rattle.layer.specs.Records.{code_over, mask_over, reward_over, SoundBook}
@@ -45,6 +45,13 @@ SoundFloor (Some b) = SoundBook b
 abbrev pub SoundFloors : List Floor → Type 0
 SoundFloors [] = Unit {0}
 SoundFloors (f ∷ fs) = SoundFloor f × SoundFloors fs
+
+-- a pile of the model m: sound floors laid on a lawful ground model
+pub record Laid (m : Model) (base : Model) (floors : List Floor) : Type 0 where
+  pub stands : m ≡ piled base floors
+  pub lawfully : Lawful base
+  pub grounded : Ground base
+  pub sound : SoundFloors floors
 
 abbrev pub shown_on : Model → List Floor → Shown
 shown_on g fs = with_floors g (on_ground g) fs

@@ -1,13 +1,13 @@
 -- One floor more on a pile.
 use Rattle.std.specs.Prelude.{◌≡◌, List, [], ◌∷◌, ◌++◌, Some, None, Option, refl}
-use Rattle.std.proofs.Common.{arith}
+use Rattle.std.proofs.Common.{sym, ap, ◌∙◌, arith}
 use Rattle.std.specs.Option.{option_map}
 use Rattle.std.proofs.lemmas.List.{length-take-le}
-use Rattle.model.specs.Models.{Model}
+use Rattle.model.specs.Models.{Model, Lawful, Ground}
 use Rattle.wishbook.specs.declared.book.WishBook.{WishBook}
 use Rattle.wishbook.specs.Contents.{contents}
 use Rattle.layer.specs.Layering.{over}
-use Rattle.pile.specs.Piles.{Floor, piled, SoundFloor, SoundFloors}
+use Rattle.pile.specs.Piles.{Floor, piled, SoundFloor, SoundFloors, Laid}
 
 pub piled_push : (m : Model) (fs : List Floor) (f : Floor) → piled m (fs ++ (f ∷ [])) ≡ over (piled m fs) f
 piled_push m [] f = refl
@@ -21,3 +21,16 @@ sound_push (x ∷ fs) f s ok = (s.0, sound_push fs f s.1 ok)
 pub book_sound : (o : Option WishBook) → SoundFloor (option_map contents o)
 book_sound None = tt
 book_sound (Some b) = record { names = b.sound; remembers = b.remembers; few = omega (arith, length-take-le b.kept b.items (omega (arith, b.few.0, b.few.1)), b.few.1) }
+
+-- a ground model is a pile with no floor
+pub laid_bare : (m : Model) → Lawful m → Ground m → Laid m m []
+laid_bare m law own = record { stands = refl; lawfully = law; grounded = own; sound = tt }
+
+-- a book on a pile is a pile with one floor more
+pub laid_push : (m base : Model) (fs : List Floor) (o : Option WishBook) → Laid m base fs → Laid (over m (option_map contents o)) base (fs ++ (option_map contents o ∷ []))
+laid_push m base fs o l = record {
+  stands = ap (λ k. over k (option_map contents o)) l.stands ∙ sym (piled_push base fs (option_map contents o));
+  lawfully = l.lawfully;
+  grounded = l.grounded;
+  sound = sound_push fs (option_map contents o) l.sound (book_sound o);
+}

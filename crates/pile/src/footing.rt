@@ -1,8 +1,8 @@
 // A pile by its ground model and its floors, and a ground model as a pile with no floor.
 ghost use Rattle.std.specs.Prelude.{◌≡◌, List, []};
-ghost use Rattle.model.specs.Models.{Model, Lawful, Ground};
-ghost use Rattle.pile.specs.Piles.{Floor, piled, SoundFloors};
-ghost use Rattle.std.proofs.Common.{rules};
+ghost use Rattle.model.specs.Models.{Model};
+ghost use Rattle.pile.specs.Piles.{Floor, Laid};
+ghost use Rattle.pile.specs.Pushing.{laid_bare};
 
 use model::{GroundModel, Outcomes, SiteModel, Sizes};
 
@@ -12,13 +12,7 @@ pub trait Pile: SiteModel {
 
     ghost floors: { Self → List Floor };
 
-    ghost stands: { (p : Self) → Self.SiteModel.meaning p ≡ piled (base p) (floors p) };
-
-    ghost lawfully: { (p : Self) → Lawful (base p) };
-
-    ghost grounded: { (p : Self) → Ground (base p) };
-
-    ghost sound: { (p : Self) → SoundFloors (floors p) };
+    ghost laid: { (p : Self) → Laid (Self.SiteModel.meaning p) (base p) (floors p) };
 }
 
 // A ground model, whoever wrote it, as the bottom of a pile.
@@ -78,11 +72,5 @@ impl<G: GroundModel> Pile for Footing<G> {
 
     ghost floors = { λ f. [] };
 
-    ghost stands = { Prim.search rules };
-
-    ghost lawfully = { λ f. G.SiteModel.lawful f.bottom };
-
-    ghost grounded = { Prim.search rules };
-
-    ghost sound = { Prim.search rules };
+    ghost laid = { λ f. laid_bare (G.SiteModel.meaning f.bottom) (G.SiteModel.lawful f.bottom) (G.GroundModel.based f.bottom) };
 }

@@ -5,12 +5,11 @@ use Rattle.pile.proofs.promise.start_of.Goals as goal
 
 pub returns : goal.returns
 returns g c =
-    let p = c.args.pile.now in
-    let laws = g.met.P.Pile in
-    let keeps = pile_keeps (g.P.Pile.base c.args.pile.now) (g.P.Pile.lawfully c.args.pile.now) (g.P.Pile.grounded c.args.pile.now) (g.P.Pile.floors c.args.pile.now) (g.P.Pile.sound c.args.pile.now) in
+    let laid = g.met.P.Pile.laid c.args.pile.now in
+    let keeps = pile_keeps (g.P.Pile.base c.args.pile.now) laid.lawfully laid.grounded (g.P.Pile.floors c.args.pile.now) laid.sound in
     record {
-      start = c.start.ensures.start ∙ ap (λ m. m.start) (g.P.Pile.stands c.args.pile.now) ∙ sym keeps.unfolds.first;
-      meaning = g.P.Pile.stands c.args.pile.now;
+      start = c.start.ensures.start ∙ ap (λ m. m.start) laid.stands ∙ sym keeps.unfolds.first;
+      meaning = laid.stands;
       keeps = keeps;
       memory = memory_tells;
       wishes = wishes_show;

@@ -3,13 +3,12 @@ use Rattle.promise.proofs.writing.write_pile.Goals as goal
 
 pub returns : goal.returns
 returns g c =
-    let p = c.args.pile.now in
-    let law = g.met.P.Pile in
+    let law = g.met.P.Pile.laid c.args.pile.now in
     let told = c.write_out.ensures in
     record {
       answer = told.answer;
       codes = told.codes;
       bytes = told.bytes;
       faithful = told.faithful;
-      corresponds = corresponds (g.P.Pile.base c.args.pile.now) (law.lawfully p) (law.grounded p) (g.P.Pile.floors c.args.pile.now) (law.sound p) (g.P.SiteModel.meaning c.args.pile.now) (law.stands p) told.faithful;
+      corresponds = corresponds (g.P.Pile.base c.args.pile.now) law.lawfully law.grounded (g.P.Pile.floors c.args.pile.now) law.sound (g.P.SiteModel.meaning c.args.pile.now) law.stands told.faithful;
     }

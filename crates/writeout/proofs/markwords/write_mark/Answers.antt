@@ -13,14 +13,14 @@ mask_word-requires g c =
 pub reward_word-requires : goal.reward_word-requires
 reward_word-requires g c =
     let law = g.met.M.SiteModel.lawful c.args.m.now in
-    let fits : SFits w32 c.reward.result = record { sfits = c.reward.type-inv } in
+    let fits : SFits w32 c.reward.result = record { sfits = c.reward.type_inv } in
     let size = ap nat_abs (to_z-of_z w32 c.reward.result fits ∙ c.reward.ensures.reward) in
     (omega (arith, size, law.bounded c.args.code, law.modest), omega (arith, c.ground.ensures.site, law.grounded c.args.code))
 
 pub returns : goal.returns
 returns g c =
     let m = g.M.SiteModel.meaning c.args.m.now in
-    let fits : SFits w32 c.reward.result = record { sfits = c.reward.type-inv } in
+    let fits : SFits w32 c.reward.result = record { sfits = c.reward.type_inv } in
     let reward = to_z-of_z w32 c.reward.result fits ∙ c.reward.ensures.reward in
     let first : Adds (word_of_mask (m.mask c.args.code) ∷ []) c.args.pen.now c.put.new.self =
     subst (λ w. Adds (w ∷ []) c.args.pen.now c.put.new.self) (c.mask_word.ensures ∙ ap word_of_mask c.mask.ensures.mask) c.put.ensures in
