@@ -1,5 +1,5 @@
 -- Merging in tables: one word more, all words, and a word whose node finds no room.
-use Rattle.std.proofs.Common.{◌≡◌, ℕ, ◌+◌, ◌-◌, ◌<◌, ◌≤◌, List, [], ◌∷◌, ◌++◌, length, get_or, take, drop, set, Some, None, Option, sym, refl, ap, ◌∙◌, subst, inr, arith}
+use Rattle.std.proofs.Common.{◌≡◌, ℕ, ◌+◌, ◌<◌, ◌≤◌, List, [], ◌∷◌, ◌++◌, length, get_or, take, drop, set, Some, None, Option, sym, refl, ap, ◌∙◌, subst, inr, arith}
 use Rattle.std.proofs.lemmas.List.{take-append-drop, take_more, take_more_set, take_all, take-take, length-take-le, length_push, length-set, drop-set-lt}
 use Rattle.register.specs.Keys.{place_of, enter}
 use Rattle.register.proofs.Keys.{place_of_le, enter-length, enter_new, enter-take}

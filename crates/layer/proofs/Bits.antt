@@ -1,5 +1,5 @@
 -- The bits of a memory and of a mask, one by one.
-use Rattle.std.proofs.Common.{◌≡◌, ℕ, zero, suc, ◌+◌, ◌-◌, ◌*◌, ◌/◌, ◌%◌, ◌^◌, ◌<◌, ◌≤◌, Bool, true, false, not, ◌&&◌, eqb, List, [], ◌∷◌, map, length, get_or, sym, refl, ap, ◌∙◌, subst, mul_comm, add_comm, arith, pow_pos}
+use Rattle.std.proofs.Common.{◌≡◌, ℕ, zero, suc, ◌+◌, ◌*◌, ◌/◌, ◌%◌, ◌^◌, ◌<◌, Bool, true, false, not, eqb, List, [], ◌∷◌, map, length, get_or, sym, ap, ◌∙◌, subst, mul_comm, add_comm, arith, pow_pos}
 use native.Mathlib.Nat.{div-eq_of_lt}
 use Rattle.std.specs.List.{ContainsAt as Has}
 use Rattle.std.proofs.lemmas.Nat.{shr-shr, shr_high}
@@ -8,19 +8,18 @@ use Rattle.std.proofs.lemmas.List.{get_or-map}
 use Rattle.std.proofs.lemmas.Bool.{eq-eqb, and_parts, ltb-true}
 use Rattle.formula.specs.declared.Item.{Item}
 use Rattle.formula.specs.declared.Item.TheVariants.{Held, Failed}
-use Rattle.formula.specs.declared.Node.{Node}
 use Rattle.formula.specs.Formulas.{truth, formulas, earlier}
 use Rattle.formula.specs.Resting.{resting}
 use Rattle.formula.proofs.Chosen.{selected}
 use Rattle.formula.proofs.Trees.{length-formulas}
-use Rattle.truth.specs.Truth.{Trace, labelled, before, holds}
+use Rattle.truth.specs.Truth.{labelled, holds}
 use Rattle.words.specs.Tests.{all}
 use Rattle.words.proofs.Tests.{all_at}
-use Rattle.wishbook.specs.Book.{Book, sound, items_over}
+use Rattle.wishbook.specs.Book.{items_over}
 use Rattle.wishlayout.specs.declared.Wish.{Wish}
 use Rattle.wishlayout.specs.Wishes.{good_wish}
 use Rattle.layer.specs.Judging.{bit, memory_of, bits_of_wishes}
-use Rattle.layer.specs.Records.{trace_of, end_of, truths, memory_at, mask_over, SoundBook, tells, MemoryTells, WishesShow}
+use Rattle.layer.specs.Records.{trace_of, end_of, truths, tells, MemoryTells, WishesShow}
 
 low : (b : Bool) (m : ℕ) → labelled (bit b + 2 * m) 0 ≡ b
 low true m = eq-eqb ((1 + 2 * m) / 1 % 2) 1 (omega arith)

@@ -1,30 +1,26 @@
 -- If a model unfolds the ground model, so does a layer on it: after every history the layer stands where the truth lines say, and shows
 -- and earns the wishes that hold at its end.
-use Rattle.std.proofs.Common.{◌≡◌, ℕ, zero, suc, ◌+◌, ◌-◌, ◌*◌, ◌/◌, ◌%◌, ◌^◌, ◌<◌, ◌≤◌, Bool, true, false, cond, not, ◌&&◌, ltb, List, [], ◌∷◌, ◌++◌, map, length, get_or, take, ℤ, pos, ◌+ℤ◌, sym, refl, ap, ◌∙◌, subst, pow-suc, arith, pow_pos, pow_mono}
+use Rattle.std.proofs.Common.{◌≡◌, ℕ, zero, suc, ◌+◌, ◌-◌, ◌*◌, ◌^◌, ◌<◌, ◌≤◌, Bool, true, false, cond, ◌&&◌, ltb, List, [], ◌∷◌, ◌++◌, map, length, get_or, ℤ, pos, ◌+ℤ◌, sym, refl, ap, ◌∙◌, subst, arith, pow_pos, pow_mono}
 use Rattle.std.specs.List.{ContainsAt as Has}
 use Rattle.std.proofs.lemmas.Nat.{div-mul-add, mod-mul-add}
-use Rattle.std.proofs.ByRecursion.{has_get_or}
 use Rattle.std.proofs.lemmas.List.{length_push, take_all, take-append-le}
 use Rattle.std.proofs.lemmas.Bool.{and_parts, and_from, lt-ltb, ltb-true}
-use Rattle.formula.specs.declared.Item.{Item}
-use Rattle.formula.specs.declared.Item.TheVariants.{Held, Failed}
 use Rattle.formula.specs.declared.Node.{Node}
-use Rattle.formula.specs.Formulas.{Formula, formulas, earlier}
-use Rattle.formula.specs.Items.{kept_items}
-use Rattle.formula.specs.Resting.{Rests, root, resting}
+use Rattle.formula.specs.Formulas.{formulas, earlier}
+use Rattle.formula.specs.Resting.{root}
 use Rattle.formula.proofs.Marks.{exact}
 use Rattle.model.specs.Histories.{final, History, begun, onward, along, Unfolds}
 use Rattle.model.specs.declared.Outcome.{Outcome}
 use Rattle.model.specs.Models.{Model}
 use Rattle.truth.specs.Truth.{Trace, holds}
 use Rattle.truth.proofs.Unfolding.{holds_local}
-use Rattle.wishbook.specs.Book.{Book, sound, items_over}
+use Rattle.wishbook.specs.Book.{Book, items_over}
 use Rattle.wishlayout.specs.declared.Wish.{Wish}
 use Rattle.wishlayout.specs.Wishes.{good_wish}
 use Rattle.words.specs.Tests.{all}
 use Rattle.layer.specs.Judging.{Remembered, recalled, verdict, verdicts_from, verdicts, bit, memory_of, bits_of_wishes, amount, earned}
 use Rattle.layer.specs.Layering.{under, memory, is_layer_state, judged, lifted, layered}
-use Rattle.layer.specs.Records.{trace_of, end_of, truths, memory_at, code_over, mask_over, reward_over, SoundBook}
+use Rattle.layer.specs.Records.{trace_of, end_of, truths, memory_at, code_over, mask_over, reward_over}
 use Rattle.layer.specs.Sizes.{memory_below}
 use Rattle.layer.proofs.Verdicts.{Right, verdicts_right, memory_at_state, recalls_at, memory_next, told_at}
 

@@ -1,16 +1,16 @@
 -- Bits meet truth: where the remembered bits tell the truth of one position earlier, the verdict on every node that a wish rests on is
 -- what the truth lines say at this position, and so the next memory tells the truth of this one.
-use Rattle.std.proofs.Common.{◌≡◌, ℕ, zero, suc, ◌+◌, ◌*◌, ◌<◌, ◌≤◌, Bool, true, false, not, ◌&&◌, ◌||◌, ltb, ◌⊎◌, List, [], ◌∷◌, ◌++◌, map, length, get_or, sym, refl, ap, ◌∙◌, subst, inl, inr, append_assoc, append-nil, arith, length-append}
+use Rattle.std.proofs.Common.{◌≡◌, ℕ, zero, suc, ◌+◌, ◌*◌, ◌<◌, Bool, true, false, not, ◌&&◌, ◌||◌, ltb, List, [], ◌∷◌, ◌++◌, map, length, get_or, sym, refl, ap, ◌∙◌, subst, inl, inr, append_assoc, arith, length-append}
 use Rattle.std.specs.List.{ContainsAt as Has}
 use Rattle.std.proofs.lemmas.List.{get_or_at, get_or_append_left, get_or_push, get_or-map, length_push}
-use Rattle.std.proofs.lemmas.Bool.{and_parts, ltb-true, cases_eq, cases_lt}
+use Rattle.std.proofs.lemmas.Bool.{and_parts, ltb-true, cases_lt}
 use Rattle.formula.specs.declared.Item.{Item}
 use Rattle.formula.specs.declared.Item.TheVariants.{Held, Failed}
 use Rattle.formula.specs.declared.Node.{Node}
 use Rattle.formula.specs.declared.Node.TheVariants.{Label, True, Not, And, Or, Previous, Since, Always, Once}
-use Rattle.formula.specs.Formulas.{Formula, truth, since, always, sometime, previously, tree_of, formulas, operands_below, earlier}
+use Rattle.formula.specs.Formulas.{Formula, truth, since, always, sometime, tree_of, formulas, operands_below, earlier}
 use Rattle.formula.specs.Items.{kept_items, lasting, is_always}
-use Rattle.formula.specs.Resting.{operands, Rests, below, resting}
+use Rattle.formula.specs.Resting.{operands, below, resting}
 use Rattle.formula.proofs.Chosen.{selected}
 use Rattle.formula.proofs.Marks.{exact}
 use Rattle.formula.proofs.Trees.{earlier_at, formulas_at, length-formulas}

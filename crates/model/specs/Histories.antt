@@ -1,7 +1,7 @@
 -- A history of a model is the list of its states from the start on, each next one a target of an action that the one before offers.
 -- A model *unfolds* a ground model where each history of the ground model leads to just one of its states, with the same offers,
 -- outcomes in the same order, and weights.
-use Rattle.std.specs.Prelude.{◌≡◌, ℕ, ◌-◌, Bool, true, List, [], ◌∷◌, ◌++◌, map, length, ℤ, slice_index}
+use Rattle.std.specs.Prelude.{◌≡◌, ℕ, ◌-◌, true, List, [], ◌∷◌, ◌++◌, map, length, ℤ, slice_index}
 use Rattle.std.specs.List.{ContainsAt as Has}
 use Rattle.model.specs.declared.Outcome.{Outcome}
 use Rattle.model.specs.Models.{Model}

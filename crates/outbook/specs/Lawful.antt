@@ -1,6 +1,6 @@
 -- A valid book by its origins is a lawful, numbered model: only the ground differs, and origins lie below 4,096.
-use Rattle.std.specs.Prelude.{◌≡◌, ℕ, ◌<◌, ◌≤◌, true, false, ltb, length, get_or, refl}
-use Rattle.std.proofs.Common.{⊎_elim, ap, subst, ◌∙◌, arith}
+use Rattle.std.specs.Prelude.{◌≡◌, ℕ, ◌<◌, ◌≤◌, true, length}
+use Rattle.std.proofs.Common.{⊎_elim, ap, arith}
 use Rattle.std.proofs.lemmas.List.{get_or_past}
 use Rattle.std.proofs.lemmas.Bool.{cases_lt, ltb-false}
 use Rattle.model.specs.Models.{Lawful, NumberedBy}
@@ -8,7 +8,7 @@ use Rattle.words.proofs.Tests.{all_at}
 use Rattle.sitelayout.specs.declared.Mark.{Mark}
 use Rattle.sitelayout.specs.Site.{Site, valid, good_mark}
 use Rattle.sitelayout.proofs.Valid.{mark_parts, validly}
-use Rattle.sitebook.specs.Models.{site_model, mark_at, origin_of, blank}
+use Rattle.sitebook.specs.Models.{mark_at, origin_of, blank}
 use Rattle.sitebook.specs.Lawful.{site_lawful, site_numbered}
 use Rattle.writeout.specs.Copies.{by_origin}
 

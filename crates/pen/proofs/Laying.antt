@@ -1,9 +1,9 @@
 -- Words are laid one after another: one word more, and several.
-use Rattle.std.proofs.Common.{◌≡◌, ℕ, zero, suc, ◌+◌, ◌-◌, ◌*◌, ◌/◌, ◌%◌, ◌<◌, ◌≤◌, Bool, true, false, List, [], ◌∷◌, ◌++◌, length, set, replicate, sym, refl, ap, ◌∙◌, subst, append_assoc, append-nil, arith}
-use Rattle.std.proofs.lemmas.List.{length-append, length_push, length-replicate, length-set, set-append_right}
+use Rattle.std.proofs.Common.{◌≡◌, ℕ, suc, ◌+◌, ◌-◌, ◌*◌, ◌/◌, ◌%◌, ◌<◌, ◌≤◌, Bool, true, false, List, [], ◌∷◌, ◌++◌, length, set, replicate, sym, refl, ap, ◌∙◌, subst, append_assoc, append-nil, arith}
+use Rattle.std.proofs.lemmas.List.{length_push, length-replicate, length-set, set-append_right}
 use Rattle.words.specs.Words.{bytes_of}
 use Rattle.words.proofs.Encoding.{bytes_append}
-use Rattle.pen.specs.Bytes.{padded, LaidIn}
+use Rattle.pen.specs.Bytes.{LaidIn}
 use Rattle.pen.specs.Laid.{Laid, Adds}
 use Rattle.pen.specs.declared.Pen.{Pen}
 

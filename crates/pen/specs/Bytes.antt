@@ -1,5 +1,5 @@
 -- A table that begins with the bytes of words and is 0 after them, or that is too short for them.
-use Rattle.std.specs.Prelude.{◌≡◌, ℕ, ◌-◌, ◌*◌, ◌<◌, ◌≤◌, Bool, true, false, cond, List, ◌++◌, length, replicate}
+use Rattle.std.specs.Prelude.{◌≡◌, ℕ, ◌-◌, ◌*◌, ◌<◌, ◌≤◌, Bool, true, false, List, ◌++◌, length, replicate}
 use Rattle.words.specs.Words.{bytes_of}
 
 -- a list made n long with zeros

@@ -1,15 +1,14 @@
 -- The promise about piles, from the laws of the ground model and the soundness of the books alone.
-use Rattle.std.proofs.Common.{◌≡◌, ℕ, zero, suc, ◌+◌, ◌-◌, ◌*◌, ◌^◌, ◌<◌, ◌≤◌, Bool, true, false, cond, ◌&&◌, ◌⊎◌, List, [], ◌∷◌, ◌++◌, map, length, get_or, ℤ, Some, None, sym, refl, ap, ◌∙◌, subst, inl, inr, arith}
-use Rattle.std.proofs.lemmas.Bool.{and_parts, cases_Bool}
+use Rattle.std.proofs.Common.{◌≡◌, ℕ, ◌<◌, ◌≤◌, Bool, true, false, cond, List, [], ◌∷◌, map, length, get_or, Some, None, sym, refl, ap, ◌∙◌, subst, arith}
+use Rattle.std.proofs.lemmas.Bool.{and_parts}
 use Rattle.std.proofs.lemmas.List.{length-map, get_or-map}
-use Rattle.std.specs.List.{ContainsAt as Has}
 use Rattle.formula.specs.Formulas.{earlier}
-use Rattle.model.specs.Histories.{final, targets_of, History, begun, onward, along, Unfolds, OnePathAbove}
+use Rattle.model.specs.Histories.{final, History, begun, onward, along, Unfolds}
 use Rattle.model.proofs.Paths.{final-push, one_path_above}
 use Rattle.model.specs.declared.Outcome.{Outcome}
 use Rattle.model.specs.Models.{Model, Lawful, Ground}
 use Rattle.words.specs.Tests.{all}
-use Rattle.wishbook.specs.Book.{Book, sound, items_over}
+use Rattle.wishbook.specs.Book.{Book, items_over}
 use Rattle.wishlayout.specs.Wishes.{good_wish}
 use Rattle.layer.specs.Layering.{fits, layered, over}
 use Rattle.layer.specs.Records.{code_over, mask_over, reward_over, SoundBook}

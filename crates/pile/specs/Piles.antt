@@ -1,6 +1,6 @@
 -- A pile is a ground model with floors laid on it, one after another. What a history of the ground model shows and earns on a pile is
 -- said by the truth lines, floor by floor: an upper book reads the wishes below it as labels.
-use Rattle.std.specs.Prelude.{◌≡◌, ℕ, Bool, cond, List, [], ◌∷◌, ℤ, Some, None, Option}
+use Rattle.std.specs.Prelude.{◌≡◌, ℕ, cond, List, [], ◌∷◌, ℤ, Some, None, Option}
 use Rattle.model.specs.Histories.{final, Unfolds, OnePathAbove}
 use Rattle.model.specs.Models.{Model, Lawful, Ground}
 use Rattle.wishbook.specs.Book.{Book}

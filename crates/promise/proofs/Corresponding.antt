@@ -4,7 +4,7 @@ use mathlib.Core.Path.{◌≡◌, sym, subst}
 use Rattle.model.specs.Histories.{Unfolds, OnePathAbove}
 use Rattle.model.specs.Models.{Model, Lawful, Ground}
 use Rattle.model.proofs.Paths.{one_path_above}
-use Rattle.pile.specs.Piles.{Floor, piled, SoundFloors, shown_on, Keeps}
+use Rattle.pile.specs.Piles.{Floor, piled, SoundFloors, shown_on}
 use Rattle.pile.proofs.Keeping.{pile_keeps}
 use Rattle.writeout.specs.Tables.{Faithfully}
 use Rattle.promise.specs.Corresponding.{book_model, place_in, Corresponds}

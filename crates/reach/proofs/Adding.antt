@@ -1,18 +1,18 @@
 -- Codes are entered one after another, and what a refused one says of the room.
-use Rattle.std.proofs.Common.{◌≡◌, ℕ, zero, suc, ◌+◌, ◌-◌, ◌<◌, ◌≤◌, min, true, false, eqb, List, [], ◌∷◌, ◌++◌, length, get_or, take, drop, Some, None, Option, sym, refl, ap, ◌∙◌, subst, append_assoc, add-one, arith}
+use Rattle.std.proofs.Common.{◌≡◌, ℕ, zero, suc, ◌+◌, ◌-◌, ◌<◌, ◌≤◌, true, false, eqb, List, [], ◌∷◌, ◌++◌, length, get_or, take, drop, sym, refl, ap, ◌∙◌, subst, arith}
 use Rattle.std.proofs.lemmas.List.{length-take-le, length_push, take-append-drop, drop_more, map-append, map_more}
 use Rattle.codes.specs.declared.Codes.{Codes}
-use Rattle.codes.specs.Listed.{listed, room_in}
+use Rattle.codes.specs.Listed.{listed}
 use Rattle.model.specs.declared.Outcome.{Outcome}
 use Rattle.model.specs.Histories.{targets_of}
 use Rattle.model.specs.Models.{Model, Lawful}
-use Rattle.register.specs.Keys.{place_of, enter, enter_all, Entered}
+use Rattle.register.specs.Keys.{place_of, enter, enter_all}
 use Rattle.register.proofs.Counting.{drop_further}
 use Rattle.register.proofs.Keys.{enter_new, enter-length, enter_all-append, enter_all-length}
 use Rattle.reach.specs.Adding.{Onto}
 use Rattle.reach.specs.Reached.{Lists, Searched}
 use Rattle.reach.specs.Search.{targets_below, leads_to, listed_after, codes_of}
-use Rattle.reach.proofs.Turns.{listed_start, listed_next, listed_within, listed_complete, codes_some}
+use Rattle.reach.proofs.Turns.{listed_next, listed_within, listed_complete}
 use Rattle.reach.proofs.Searching.{search_lists, search_exceeds}
 
 pub listed-length : (c : Codes) → length (listed c) ≡ c.len

@@ -1,5 +1,5 @@
 -- What a rule book in memory says, and what the reader's answer means.
-use Rattle.std.specs.Prelude.{ℕ, Ok, Err, Result}
+use Rattle.std.specs.Prelude.{Ok, Err, Result}
 use Rattle.refusal.specs.declared.Refusal.{Refusal}
 use Rattle.refusal.specs.declared.Fault.{Fault}
 use Rattle.words.specs.Format.{Verdict, got, stop}

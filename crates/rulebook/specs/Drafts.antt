@@ -1,6 +1,5 @@
 -- What the reader's tables stand for while a file is read.
 use Rattle.std.specs.Prelude.{ℕ, List}
-use Rattle.refusal.specs.declared.Refusal.{Refusal}
 use Rattle.words.specs.Format.{Step, wrong, more, ends}
 use Rattle.rulelayout.specs.declared.RuleHead.{RuleHead}
 use Rattle.rulelayout.specs.declared.Masks.{Masks}

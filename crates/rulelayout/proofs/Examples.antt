@@ -1,8 +1,8 @@
 -- Small files, read by the definitions alone.
-use Rattle.std.proofs.Common.{◌≡◌, ℕ, Bool, true, false, List, [], ◌∷◌, refl}
+use Rattle.std.proofs.Common.{◌≡◌, ℕ, true, List, [], ◌∷◌, refl}
 use Rattle.refusal.specs.declared.Refusal.TheVariants.{SwitchTwice, NoWait, WrongTotal}
 use Rattle.words.specs.Words.{bytes_of}
-use Rattle.words.specs.Format.{Verdict, got, stop, run, reading, file}
+use Rattle.words.specs.Format.{got, stop, run, reading, file}
 use Rattle.rulelayout.specs.Rule.{Rule, valid}
 use Rattle.rulelayout.specs.Layout.{rule_format, read_word, whole_rule, rule_words}
 

@@ -1,13 +1,13 @@
 -- The files that are read are just the encodings of valid rule books: `rule_faithful`. For a reader: every draft that reading
 -- comes to is sound (`sound_steps`), and a sound draft that ends well is a valid book (`sound_valid`).
-use Rattle.std.proofs.Common.{◌≡◌, ℕ, suc, ◌+◌, ◌*◌, ◌^◌, ◌<◌, ◌≤◌, Bool, true, false, cond, ◌&&◌, eqb, ltb, leb, ◌⊎◌, List, [], ◌∷◌, ◌++◌, length, Ok, Err, Result, sym, refl, ap, ◌∙◌, subst, inl, inr, arith, lit<}
+use Rattle.std.proofs.Common.{◌≡◌, ℕ, suc, ◌*◌, ◌^◌, ◌<◌, ◌≤◌, Bool, true, false, cond, ◌&&◌, eqb, ltb, List, [], ◌∷◌, ◌++◌, length, Ok, Err, Result, sym, refl, ap, ◌∙◌, subst, inl, inr, arith, lit<}
 use Rattle.std.proofs.lemmas.Bool.{and_parts, and_from, eqb-true, eq-eqb, ltb-true, ltb-false, lt-ltb, le-ltb, cases_Bool, cond-true, cond-false}
 use Rattle.std.proofs.lemmas.List.{append-nil, append_assoc, length_push, length-append}
 use Rattle.refusal.specs.declared.Refusal.{Refusal}
 use Rattle.refusal.specs.declared.Refusal.TheVariants.{WrongKind, WrongTotal, NoWait}
-use Rattle.words.specs.Words.{field, kind, end_word}
-use Rattle.words.specs.Format.{Step, wrong, more, ends, check, Format, PlacesRight, ReadsBack, OnlyEncodings, Faithful}
-use Rattle.words.specs.Tests.{all, within}
+use Rattle.words.specs.Words.{kind, end_word}
+use Rattle.words.specs.Format.{Step, more, ends, ReadsBack, Faithful}
+use Rattle.words.specs.Tests.{all}
 use Rattle.words.proofs.Fields.{kind_put}
 use Rattle.words.proofs.Tests.{all_push, check_more, check_ends, check_passed}
 use Rattle.words.proofs.Reading.{places_right}
@@ -16,7 +16,7 @@ use Rattle.rulelayout.specs.declared.Effect.{Effect}
 use Rattle.rulelayout.specs.declared.RuleHead.{RuleHead}
 use Rattle.rulelayout.specs.declared.Masks.{Masks}
 use Rattle.rulelayout.specs.Rule.{Act, Rule, total, fits, good_effect, good_act, good_head, waits, valid}
-use Rattle.rulelayout.specs.Layout.{word_of_head, action_word, effect_word, effect_words, act_words, rule_words, test, head_of, masks_of, Draft, blank, listing, inside, whole, going, listed, act_of, effect_of, filled, read_word, rule_of, whole_rule, rule_format, Begun, Sound}
+use Rattle.rulelayout.specs.Layout.{word_of_head, action_word, effect_word, effect_words, act_words, rule_words, head_of, masks_of, Draft, blank, listing, inside, whole, going, listed, act_of, effect_of, filled, read_word, rule_of, whole_rule, rule_format, Begun, Sound}
 use Rattle.rulelayout.proofs.OneWord.{test_ok, test_passed, head_only, head_parts, head_low, head_back, masks_only, masks_low, masks_back, count_parts}
 
 -- the words read so far

@@ -1,5 +1,5 @@
 -- What is read of one word is just what was written there: `head_only`, `head_back`, `masks_only`, `masks_back`.
-use Rattle.std.proofs.Common.{◌≡◌, ℕ, ◌+◌, ◌*◌, ◌/◌, ◌%◌, ◌^◌, ◌<◌, ◌≤◌, Bool, true, false, cond, ◌&&◌, eqb, ltb, Ok, Err, Result, sym, refl, ap, ◌∙◌, subst, arith, lit<, pow_mono}
+use Rattle.std.proofs.Common.{◌≡◌, ℕ, ◌+◌, ◌*◌, ◌^◌, ◌<◌, ◌≤◌, Bool, true, false, ◌&&◌, eqb, ltb, Ok, Result, refl, ap, ◌∙◌, subst, arith, lit<, pow_mono}
 use lib.Bits.{bit_and}
 use Rattle.std.proofs.lemmas.Bool.{and_parts, and_from, eqb-true, eq-eqb, ltb-true}
 use Rattle.refusal.specs.declared.Refusal.{Refusal}

@@ -1,6 +1,6 @@
 -- How a rule book is written in words, and how it is read: head, each action in order with its outcomes right after it, and
 -- the end word. The tests of one word stand first, and the order of the words after them.
-use Rattle.std.specs.Prelude.{◌≡◌, ℕ, ◌+◌, ◌*◌, ◌^◌, ◌<◌, Bool, true, false, cond, ◌&&◌, List, [], ◌∷◌, ◌++◌, length, Ok, Err, Result, ◌==◌, bit_and, nat_lt}
+use Rattle.std.specs.Prelude.{◌≡◌, ℕ, ◌+◌, ◌*◌, ◌^◌, ◌<◌, Bool, true, cond, List, [], ◌∷◌, ◌++◌, length, Ok, Err, Result, ◌==◌, bit_and, nat_lt}
 use Rattle.refusal.specs.declared.Refusal.{Refusal}
 use Rattle.refusal.specs.declared.Refusal.TheVariants.{WrongKind, UnusedBit, OutOfRange, WrongTotal, NoWait, SwitchTwice}
 use Rattle.words.specs.Words.{field, kind}

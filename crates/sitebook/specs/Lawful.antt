@@ -7,11 +7,11 @@ use Rattle.std.proofs.lemmas.Bool.{cases_Bool, cases_lt, and_parts, and_from, lt
 use Rattle.model.specs.declared.Outcome.{Outcome}
 use Rattle.model.specs.Models as models
 use Rattle.model.specs.Models.{Lawful, Ground, NumberedBy}
-use Rattle.words.specs.Tests.{all, within, none}
+use Rattle.words.specs.Tests.{all, none}
 use Rattle.words.proofs.Tests.{all_at, all_below_at}
 use Rattle.sitelayout.specs.declared.Mark.{Mark}
 use Rattle.sitelayout.specs.declared.Move.{Move}
-use Rattle.sitelayout.specs.Site.{Site, taken, apart, total, good_mark, good_move, good_cell, waits, valid}
+use Rattle.sitelayout.specs.Site.{Site, taken, apart, total, good_mark, good_move, good_cell, valid}
 use Rattle.sitelayout.proofs.OneWords.{GoodOutcome}
 use Rattle.sitelayout.proofs.Valid.{mark_parts, move_parts, CellGood, cell_good, Validly, validly}
 use Rattle.siteverdict.specs.Counting.{size, bound_of}

@@ -1,6 +1,6 @@
 -- The site model that a book is: its states are the numbers below the count of its marks, and each is its own ground.
 -- A number that is no state has the blank mark, and offers nothing.
-use Rattle.std.specs.Prelude.{ℕ, ◌+◌, ◌*◌, Bool, cond, not, ◌&&◌, List, [], map, length, pos, ◌-ℤ◌, nat_lt, slice_index_or}
+use Rattle.std.specs.Prelude.{ℕ, ◌+◌, ◌*◌, cond, not, ◌&&◌, List, [], map, length, pos, ◌-ℤ◌, nat_lt, slice_index_or}
 use Rattle.model.specs.declared.Outcome.{Outcome}
 use Rattle.model.specs.Models.{Model}
 use Rattle.words.specs.Tests.{none}

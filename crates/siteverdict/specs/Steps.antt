@@ -1,12 +1,11 @@
 -- What the pass does at each word, in numbers: the next state by what is due, and the answer at the end word.
 -- `Room` bounds the numbers of a state, so that none of them passes its width.
-use Rattle.std.specs.Prelude.{◌≡◌, ℕ, zero, suc, ◌+◌, ◌-◌, ◌*◌, ◌%◌, ◌^◌, ◌<◌, ◌≤◌, max, Bool, true, false, cond, not, ◌&&◌, List, [], ◌∷◌, length, take, replicate, Ok, Err, Result, ◌==◌, nat_le, nat_lt, slice_set}
+use Rattle.std.specs.Prelude.{◌≡◌, ℕ, ◌+◌, ◌-◌, ◌*◌, ◌%◌, ◌^◌, ◌<◌, ◌≤◌, max, Bool, cond, ◌&&◌, length, take, replicate, Ok, Err, Result, ◌==◌, nat_le, nat_lt, slice_set}
 use Rattle.refusal.specs.declared.Fault.{Fault}
 use Rattle.refusal.specs.declared.Refusal.{Refusal}
 use Rattle.refusal.specs.declared.Refusal.TheVariants.{WrongEnd, WrongTotal, NotRising, NoWait}
 use Rattle.words.specs.Words.{kind}
 use Rattle.sitelayout.specs.declared.Entry.{Entry}
-use Rattle.sitelayout.specs.declared.Head.{Head}
 use Rattle.sitelayout.specs.declared.Move.{Move}
 use Rattle.sitelayout.specs.OneWord.{head_of, mask_of, reward_of, entry_of, move_of}
 use Rattle.siteverdict.specs.declared.Counts.{Counts}

@@ -1,8 +1,8 @@
 -- The Boolean truth lines say what the plain ones say.
-use Rattle.std.proofs.Common.{◌≡◌, ℕ, zero, suc, ◌/◌, ◌%◌, ◌^◌, ◌<◌, ◌≤◌, Bool, true, false, not, ◌&&◌, ◌||◌, eqb, ltb, ◌⊎◌, sym, refl, ap, ◌∙◌, subst, inl, inr, arith}
-use Rattle.std.proofs.lemmas.Bool.{and_parts, and_from, or_cases, or_left, or_right, not-true, not_from_false, both_ways, cases_Bool, cases_eq, eqb-true, eq-eqb, ltb-true, lt-ltb, le-ltb}
-use Rattle.formula.specs.Formulas.{Formula, atom, truth, negation, conjunction, disjunction, previously, since, always, sometime}
-use Rattle.truth.specs.Truth.{Trace, labelled, all_to, some_to, implies, before, holds, Holds, PlainTruth}
+use Rattle.std.proofs.Common.{◌≡◌, ℕ, zero, suc, ◌/◌, ◌%◌, ◌^◌, ◌≤◌, Bool, true, false, ◌&&◌, ltb, sym, refl, ap, ◌∙◌, inl, inr, arith}
+use Rattle.std.proofs.lemmas.Bool.{and_parts, and_from, or_cases, or_left, or_right, not-true, not_from_false, both_ways, cases_Bool, cases_eq, eqb-true, eq-eqb, ltb-true, lt-ltb}
+use Rattle.formula.specs.Formulas.{atom, truth, negation, conjunction, disjunction, previously, since, always, sometime}
+use Rattle.truth.specs.Truth.{all_to, some_to, implies, holds, PlainTruth}
 
 pub all_to_at : (i : ℕ) (P : ℕ → Bool) (j : ℕ) → all_to i P ≡ true → j ≤ i → P j ≡ true
 all_to_at zero P j h le = let e : j ≡ zero = omega arith in ap P e ∙ h

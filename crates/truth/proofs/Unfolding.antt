@@ -1,8 +1,8 @@
 -- The truth lines from one position to the next, and that a verdict rests on the positions up to its own.
-use Rattle.std.proofs.Common.{◌≡◌, ℕ, zero, suc, ◌/◌, ◌%◌, ◌^◌, ◌<◌, ◌≤◌, Bool, true, false, not, ◌&&◌, ◌||◌, eqb, ltb, ◌⊎◌, sym, refl, ap, ◌∙◌, subst, inl, inr, arith}
+use Rattle.std.proofs.Common.{◌≡◌, ℕ, zero, suc, ◌≤◌, Bool, true, false, not, ◌&&◌, ◌||◌, ltb, refl, ap, ◌∙◌, arith}
 use Rattle.std.proofs.lemmas.Bool.{lt-ltb, le-ltb}
 use Rattle.formula.specs.Formulas.{Formula, atom, truth, negation, conjunction, disjunction, previously, since, always, sometime}
-use Rattle.truth.specs.Truth.{Trace, labelled, all_to, some_to, implies, before, holds}
+use Rattle.truth.specs.Truth.{Trace, labelled, all_to, some_to, implies, holds}
 
 all_to_same : (i : ℕ) (P Q : ℕ → Bool) → ((j : ℕ) → j ≤ i → P j ≡ Q j) → all_to i P ≡ all_to i Q
 all_to_same zero P Q h = h zero (omega arith)

@@ -1,5 +1,5 @@
 -- What one word adds to what was gathered, and that this is a step of the wish book's format.
-use Rattle.std.proofs.Common.{◌≡◌, ℕ, zero, suc, ◌+◌, ◌%◌, ◌^◌, ◌<◌, ◌≤◌, Bool, true, false, cond, not, ◌&&◌, eqb, ltb, List, [], ◌∷◌, ◌++◌, length, take, set, Ok, Err, Result, sym, refl, ap, ◌∙◌, subst, arith}
+use Rattle.std.proofs.Common.{◌≡◌, ℕ, ◌+◌, ◌%◌, ◌^◌, ◌<◌, ◌≤◌, Bool, true, false, cond, not, ◌&&◌, eqb, ltb, List, [], ◌∷◌, ◌++◌, length, take, set, Ok, Err, Result, sym, refl, ap, ◌∙◌, subst, arith}
 use Rattle.std.proofs.lemmas.List.{length-take-le, take_more_set, length_push}
 use Rattle.std.proofs.lemmas.Bool.{eq-eqb, ne_eqb, lt-ltb}
 use Rattle.formula.specs.declared.Node.{Node}
@@ -11,7 +11,7 @@ use Rattle.words.specs.Format.{wrong, more, ends, check, onto, stop, closing, en
 use Rattle.words.specs.Tests.{none}
 use Rattle.words.proofs.Tests.{check_passed}
 use Rattle.wishlayout.specs.declared.Wish.{Wish}
-use Rattle.wishlayout.specs.Layout.{Draft, noding, wishing, read_wish, read_word, whole_book, wish_format, Good}
+use Rattle.wishlayout.specs.Layout.{noding, wishing, read_wish, read_word, whole_book, wish_format, Good}
 use Rattle.wishlayout.specs.OneWord.{node_of, wish_of}
 use Rattle.wishbook.specs.declared.gathered.Gathered.{Gathered}
 use Rattle.wishbook.specs.Gathering.{draft_of}

@@ -1,5 +1,5 @@
 -- From what was gathered to the book: tables that are filled by a rule, the items, and that the book is what its words come to.
-use Rattle.std.proofs.Common.{◌≡◌, ℕ, ◌+◌, ◌-◌, ◌<◌, ◌≤◌, Bool, true, false, cond, ◌&&◌, ltb, ◌⊎◌, List, [], ◌∷◌, ◌++◌, map, length, get_or, take, set, replicate, Some, None, Ok, Err, Option, sym, refl, ap, ◌∙◌, subst, inl, inr, arith}
+use Rattle.std.proofs.Common.{◌≡◌, ℕ, ◌+◌, ◌-◌, ◌<◌, ◌≤◌, Bool, true, false, cond, ltb, List, [], ◌∷◌, ◌++◌, map, length, get_or, take, set, replicate, Some, None, Ok, Err, Option, sym, refl, ap, ◌∙◌, subst, inl, inr, arith}
 use native.Mathlib.Nat.{sub-zero}
 use Rattle.std.proofs.lemmas.List.{take_more_set, map_more, take_all, take_at, length-take-le}
 use Rattle.formula.specs.declared.Item.{Item}
@@ -18,9 +18,9 @@ use Rattle.words.specs.Format.{got, stop, closing}
 use Rattle.words.specs.Tests.{all}
 use Rattle.wishlayout.specs.declared.Wish.{Wish}
 use Rattle.wishlayout.specs.Layout.{wishing, whole_book, Good}
-use Rattle.wishlayout.specs.Wishes.{Wishes, items_for, good_wish, valid}
+use Rattle.wishlayout.specs.Wishes.{items_for, good_wish}
 use Rattle.wishlayout.proofs.Way.{validly}
-use Rattle.wishbook.specs.Book.{Book, renamed, book_of, sound, items_over, meant, SameWishes}
+use Rattle.wishbook.specs.Book.{renamed, book_of, sound, items_over, meant, SameWishes}
 use Rattle.wishbook.specs.Contents.{Remembered}
 use Rattle.wishbook.specs.Gathers.{nodes_in, wishes_in}
 use Rattle.wishbook.specs.declared.gathered.Gathered.{Gathered}

@@ -1,16 +1,16 @@
 -- The layout of wish books is faithful: reading the encoding of a valid book gives that book back, and whatever is accepted is the
 -- encoding of the book that was read.
-use Rattle.std.proofs.Common.{◌≡◌, ℕ, zero, suc, ◌+◌, ◌*◌, ◌^◌, ◌<◌, ◌≤◌, Bool, true, false, cond, not, ◌&&◌, eqb, ltb, leb, ◌⊎◌, List, [], ◌∷◌, ◌++◌, length, Ok, Err, Result, sym, refl, ap, ◌∙◌, subst, inl, inr, append_assoc, append-nil, arith, length-append}
+use Rattle.std.proofs.Common.{◌≡◌, ℕ, suc, ◌+◌, ◌^◌, ◌<◌, ◌≤◌, Bool, true, false, cond, not, eqb, ltb, leb, List, [], ◌∷◌, ◌++◌, length, Ok, Err, Result, sym, refl, ap, ◌∙◌, subst, inl, inr, append_assoc, append-nil, arith, length-append}
 use Rattle.std.proofs.lemmas.List.{length_push}
-use Rattle.std.proofs.lemmas.Bool.{and_parts, and_from, eqb-true, eq-eqb, ne_eqb, ltb-true, lt-ltb, leb-true, le-leb, cases_Bool, not-true}
+use Rattle.std.proofs.lemmas.Bool.{and_parts, and_from, eqb-true, eq-eqb, ne_eqb, ltb-true, lt-ltb, cases_Bool, not-true}
 use Rattle.formula.specs.declared.Node.{Node}
 use Rattle.formula.specs.Formulas.{operands_below, earlier_from, earlier}
 use Rattle.formula.proofs.Trees.{earlier-push}
 use Rattle.refusal.specs.declared.Refusal.{Refusal}
 use Rattle.refusal.specs.declared.Refusal.TheVariants.{WrongKind, TooManyItems}
 use Rattle.words.specs.Words.{kind, end_word}
-use Rattle.words.specs.Format.{Step, more, ends, check, onto, got, reading, file, ReadsBack, Faithful}
-use Rattle.words.specs.Tests.{all, within, none}
+use Rattle.words.specs.Format.{more, ends, check, onto, got, reading, file, Faithful}
+use Rattle.words.specs.Tests.{all, none}
 use Rattle.words.proofs.Reading.{places_right}
 use Rattle.words.proofs.Encoding.{Passes, passes_append, reads_file, only_encodings}
 use Rattle.words.proofs.Fields.{kind_put}

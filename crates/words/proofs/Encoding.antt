@@ -1,14 +1,14 @@
 -- What a format owes so that its files are just the encodings of valid books: an account of the words read so far, and the
 -- way of a valid book through the format.
-use Rattle.std.proofs.Common.{◌≡◌, ℕ, zero, suc, ◌+◌, ◌-◌, ◌*◌, ◌/◌, ◌%◌, ◌^◌, ◌<◌, ◌≤◌, Bool, true, false, cond, ◌&&◌, eqb, ◌⊎◌, List, [], ◌∷◌, ◌++◌, length, get_or, take, drop, Ok, Err, Result, sym, refl, ap, ◌∙◌, subst, inl, inr, append_assoc, append-nil, mod-eq_of_lt, arith, lit<}
+use Rattle.std.proofs.Common.{◌≡◌, ℕ, suc, ◌+◌, ◌*◌, ◌/◌, ◌%◌, ◌^◌, ◌<◌, true, cond, ◌&&◌, eqb, List, [], ◌∷◌, ◌++◌, length, Ok, Err, Result, sym, refl, ap, ◌∙◌, subst, inl, inr, append_assoc, mod-eq_of_lt, arith, lit<}
 use Rattle.std.proofs.lemmas.Bool.{cases_Bool, and_parts, eqb-true, eq-eqb, and_from}
 use Rattle.std.proofs.lemmas.List.{length_push}
 use Rattle.std.proofs.lemmas.Nat.{shr-shr, div-add-mod', div_below}
 use Rattle.refusal.specs.declared.Refusal.{Refusal}
-use Rattle.refusal.specs.declared.Refusal.TheVariants.{CutOff, WrongEnd}
-use Rattle.words.specs.Words.{word_of, first_word, end_word, bytes_of, Bytes, kind}
-use Rattle.words.specs.Format.{Step, wrong, more, ends, Verdict, got, stop, Format, is_nil, closing, ending, run, reading, file, PlacesRight, ReadsBack, OnlyEncodings, Faithful}
-use Rattle.words.proofs.Reading.{after, run_four, places_right}
+use Rattle.refusal.specs.declared.Refusal.TheVariants.{WrongEnd}
+use Rattle.words.specs.Words.{word_of, end_word, bytes_of, Bytes, kind}
+use Rattle.words.specs.Format.{Step, wrong, more, ends, got, stop, Format, is_nil, closing, ending, run, reading, file, OnlyEncodings}
+use Rattle.words.proofs.Reading.{after, run_four}
 
 pub bytes_append : (xs ys : List ℕ) → bytes_of (xs ++ ys) ≡ bytes_of xs ++ bytes_of ys
 bytes_append [] ys = refl

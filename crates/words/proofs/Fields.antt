@@ -1,5 +1,5 @@
 -- A word is the sum of its fields, each at its place, and a field of such a sum is the number that was put there.
-use Rattle.std.proofs.Common.{◌≡◌, ℕ, ◌+◌, ◌*◌, ◌/◌, ◌%◌, ◌^◌, ◌<◌, sym, refl, ap, ◌∙◌, mod-lt, mul_comm, add_comm, arith}
+use Rattle.std.proofs.Common.{◌≡◌, ℕ, ◌+◌, ◌*◌, ◌/◌, ◌%◌, ◌^◌, ◌<◌, sym, ap, ◌∙◌, mod-lt, mul_comm, add_comm, arith}
 use Rattle.std.proofs.lemmas.Nat.{shr-shr, div-add-mod', shr_high, mod_low, pow_pos}
 use Rattle.words.specs.Words.{field, kind}
 

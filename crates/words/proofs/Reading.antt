@@ -1,10 +1,10 @@
 -- What holds of reading by any format: what one word does, and that a refusal's place is right.
-use Rattle.std.proofs.Common.{◌≡◌, ℕ, zero, suc, ◌+◌, ◌-◌, ◌*◌, ◌/◌, ◌%◌, ◌^◌, ◌<◌, ◌≤◌, Bool, true, false, cond, ◌&&◌, eqb, ◌⊎◌, List, [], ◌∷◌, ◌++◌, length, get_or, take, drop, Ok, Err, Result, sym, refl, ap, ◌∙◌, subst, inl, inr, arith}
+use Rattle.std.proofs.Common.{◌≡◌, ℕ, suc, ◌+◌, ◌-◌, ◌*◌, ◌%◌, ◌^◌, ◌<◌, ◌≤◌, Bool, true, false, cond, ◌&&◌, eqb, List, [], ◌∷◌, length, take, drop, Ok, Err, Result, sym, refl, ap, ◌∙◌, subst, inl, inr, arith}
 use Rattle.std.proofs.lemmas.Bool.{cases_Bool, cond-true, cond-false, and_from, and_left, and_right, eq-eqb, ne_eqb}
 use Rattle.refusal.specs.declared.Refusal.{Refusal}
 use Rattle.refusal.specs.declared.Refusal.TheVariants.{CutOff, WrongEnd}
-use Rattle.words.specs.Words.{word_of, first_word, end_word, bytes_of, Bytes}
-use Rattle.words.specs.Format.{Step, wrong, more, ends, Verdict, got, stop, Format, is_nil, closing, ending, run, reading, file, PlacesRight, ReadsBack, OnlyEncodings}
+use Rattle.words.specs.Words.{word_of, first_word}
+use Rattle.words.specs.Format.{Step, wrong, more, ends, Verdict, got, stop, Format, is_nil, closing, ending, run, PlacesRight}
 
 abbrev pub after : {S B : Type 0} → Format S B → S → ℕ → ℕ → List ℕ → Step S → Verdict B
 after f s p w rest (wrong r) = stop r p

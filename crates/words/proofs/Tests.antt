@@ -1,8 +1,8 @@
 -- What the tests that the books share come to at each element, and one element on.
-use Rattle.std.proofs.Common.{◌≡◌, ℕ, zero, suc, ◌+◌, ◌<◌, ◌≤◌, Bool, true, false, cond, ◌&&◌, leb, ◌⊎◌, List, [], ◌∷◌, ◌++◌, length, get_or, replicate, Ok, Err, Result, sym, refl, ap, ◌∙◌, inl, inr, arith}
-use Rattle.std.proofs.lemmas.Bool.{and_parts, and_from, leb-true, le-leb, cases_Bool, cases_eq}
+use Rattle.std.proofs.Common.{◌≡◌, ℕ, zero, suc, ◌<◌, ◌≤◌, Bool, true, false, leb, List, [], ◌∷◌, ◌++◌, length, get_or, replicate, Ok, Err, Result, refl, ap, ◌∙◌, inl, inr, arith}
+use Rattle.std.proofs.lemmas.Bool.{and_parts, and_from, leb-true, le-leb, cases_eq}
 use Rattle.refusal.specs.declared.Refusal.{Refusal}
-use Rattle.words.specs.Tests.{all, all_below, within, none}
+use Rattle.words.specs.Tests.{all, all_below, within}
 use Rattle.words.specs.Format.{Step, wrong, more, ends, check, require, onto}
 
 pub all_push : {X : Type 0} (P : X → Bool) (xs : List X) (y : X) → all P xs ≡ true → P y ≡ true → all P (xs ++ (y ∷ [])) ≡ true

@@ -1,11 +1,11 @@
 -- A policy chooses from the whole history. What it earns is said over histories of the ground model, with the rewards that the
 -- record gives, and not over states of another model.
-use Rattle.std.specs.Prelude.{◌≡◌, ℕ, zero, suc, ◌+◌, ◌-◌, ◌≤◌, true, List, [], ◌∷◌, ◌++◌, length, ℤ, ◌+ℤ◌, ◌≤ℤ◌}
+use Rattle.std.specs.Prelude.{◌≡◌, ℕ, zero, suc, ◌-◌, ◌≤◌, true, List, [], ◌∷◌, ◌++◌, length, ℤ, ◌+ℤ◌, ◌≤ℤ◌}
 use Rattle.std.specs.List.{ContainsAt as Has}
-use Rattle.model.specs.Histories.{final, targets_of, Unfolds}
+use Rattle.model.specs.Histories.{final, targets_of}
 use Rattle.model.specs.Models.{Model}
 use Rattle.weighing.specs.Weighings.{Weigh, held}
-use Rattle.worth.specs.Worths.{joined, own_part, worth_of, choice_of}
+use Rattle.worth.specs.Worths.{joined, own_part, choice_of}
 
 -- an action for each history
 abbrev pub Policy : Type 0

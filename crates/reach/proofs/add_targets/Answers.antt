@@ -1,4 +1,4 @@
-use Rattle.std.proofs.Common.{◌≡◌, suc, ◌+◌, ◌<◌, eqb, length, sym, refl, ap, ◌∙◌, subst, arith}
+use Rattle.std.proofs.Common.{◌≡◌, suc, ◌+◌, ◌<◌, eqb, length, refl, ap, ◌∙◌, subst, arith}
 use Rattle.codes.specs.Listed.{listed, room_in}
 use Rattle.model.specs.Histories.{targets_of}
 use Rattle.register.specs.Keys.{enter_all}

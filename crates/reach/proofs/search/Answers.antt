@@ -1,8 +1,7 @@
-use Rattle.std.proofs.Common.{◌≡◌, ℕ, ◌+◌, ◌-◌, ◌<◌, ◌≤◌, min, eqb, [], length, get_or, sym, refl, ap, ◌∙◌, subst, arith}
+use Rattle.std.proofs.Common.{◌≡◌, ◌<◌, eqb, [], length, sym, ap, ◌∙◌, subst, arith}
 use Rattle.codes.specs.Listed.{listed, room_in}
 use Rattle.register.specs.Keys.{enter, enter_all}
-use Rattle.reach.specs.Adding.{Onto}
-use Rattle.reach.specs.Search.{leads_to, codes_of}
+use Rattle.reach.specs.Search.{leads_to}
 use Rattle.reach.proofs.Turns.{listed_start, codes_some}
 use Rattle.reach.proofs.Adding.{listed-length, onto_self, onto_both, onto_entered, onto_same, search_full, search_turn, search_turn_full, search_done, cleared_rest, cleared_room, cleared_none}
 use Rattle.reach.proofs.search.Goals as goal

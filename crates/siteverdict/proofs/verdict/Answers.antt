@@ -1,10 +1,9 @@
-use Rattle.std.proofs.Common.{◌≡◌, ◌+◌, ◌*◌, length, drop, sym, ap, ◌∙◌, subst, arith}
+use Rattle.std.proofs.Common.{length, sym, ap, ◌∙◌, subst, arith}
 use Rattle.std.proofs.lemmas.List.{length-drop}
 use Rattle.words.specs.Format.{ending}
 use Rattle.words.proofs.Reading.{after, run_short}
 use Rattle.sitelayout.specs.Layout.{site_format, whole_book}
 use Rattle.siteverdict.specs.Counting.{Judges}
-use Rattle.siteverdict.specs.Steps.{close_of}
 use Rattle.siteverdict.proofs.Tracking.{tracks_room, a_turn, track_close, nil_length}
 use Rattle.siteverdict.proofs.verdict.Goals as goal
 

@@ -1,4 +1,4 @@
-use Rattle.std.proofs.Common.{◌≡◌, ◌/◌, ◌%◌, ◌^◌, ◌<◌, ◌≤◌, sym, ap, ◌∙◌, mod-eq_of_lt, div-le_self, arith, pow_mono}
+use Rattle.std.proofs.Common.{◌/◌, ◌%◌, ◌^◌, ◌<◌, ◌≤◌, sym, ap, ◌∙◌, mod-eq_of_lt, div-le_self, arith, pow_mono}
 use native.Mathlib.Nat.{zero-mod, div-eq_of_lt}
 use Rattle.words.proofs.field.Goals as goal
 

@@ -1,6 +1,6 @@
 use Rattle.std.proofs.Common.{[], ap, ◌∙◌}
 use Rattle.words.specs.Format.{more}
-use Rattle.rulelayout.specs.Layout.{head_of, going, listing, read_word}
+use Rattle.rulelayout.specs.Layout.{going, listing, read_word}
 use Rattle.rulebook.specs.Drafts.{head_from}
 use Rattle.rulebook.proofs.read.head_step.Goals as goal
 

@@ -1,4 +1,4 @@
-use Rattle.std.proofs.Common.{sym, arith}
+use Rattle.std.proofs.Common.{arith}
 use Rattle.rulebook.proofs.Tables.{total_more}
 use Rattle.rulebook.proofs.read.weights.Goals as goal
 

@@ -1,4 +1,4 @@
-use Rattle.std.proofs.Common.{◌≡◌, ◌+◌, ◌*◌, sym, ap, ◌∙◌, subst, arith}
+use Rattle.std.proofs.Common.{◌≡◌, ◌+◌, ◌*◌, sym, subst, arith}
 use Rattle.codes.specs.Listed.{listed}
 use Rattle.pen.specs.Laid.{Adds}
 use Rattle.pen.proofs.Laying.{adds_none, adds_both}

@@ -1,4 +1,4 @@
-use Rattle.std.proofs.Common.{vec_items, sym, ap, arith}
+use Rattle.std.proofs.Common.{vec_items, sym, arith}
 use Rattle.std.proofs.lemmas.List.{get_or_past}
 use Rattle.sitebook.specs.Models.{blank}
 use Rattle.sitebook.proofs.book.SiteBook.mark.Goals as goal

@@ -1,10 +1,9 @@
-use Rattle.std.proofs.Common.{◌≡◌, length, vec_items, vec_len, sym, ap, ◌∙◌, subst, arith}
+use Rattle.std.proofs.Common.{sym, ap, ◌∙◌, arith}
 use Rattle.std.proofs.lemmas.Result.{IfOk-weaker}
 use Rattle.words.specs.Format.{got}
 use Rattle.sitelayout.specs.Site.{Site}
-use Rattle.sitebook.specs.Contents.{contents}
-use Rattle.sitebook.specs.Storing.{held, book_of}
-use Rattle.sitebook.proofs.Storing.{Storing, storing_room, storing_long, storing_more, storing_end}
+use Rattle.sitebook.specs.Storing.{held}
+use Rattle.sitebook.proofs.Storing.{storing_room, storing_long, storing_more, storing_end}
 use Rattle.sitebook.proofs.book.reading.stored.Goals as goal
 
 pub unreachable-requires : goal.unreachable-requires

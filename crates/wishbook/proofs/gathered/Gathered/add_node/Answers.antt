@@ -1,4 +1,4 @@
-use Rattle.std.proofs.Common.{refl, arith, rules}
+use Rattle.std.proofs.Common.{refl, arith}
 use Rattle.wishbook.proofs.Stepping.{node_added}
 use Rattle.wishbook.proofs.gathered.Gathered.add_node.Goals as goal
 

@@ -1,6 +1,5 @@
-use Rattle.std.proofs.Common.{◌-◌, length, take, refl, ap, ◌∙◌, arith, rules}
+use Rattle.std.proofs.Common.{◌-◌, length, take, refl, ap, arith, rules}
 use native.Mathlib.Nat.{sub-zero}
-use Rattle.wishbook.specs.Gathers.{nodes_in}
 use Rattle.wishbook.proofs.Whole.{always_merges, whole_tables, count_few, tables_sound, tables_remember, tables_few, tables_book, tables_over}
 use Rattle.wishbook.proofs.gathered.Gathered.book.Goals as goal
 

@@ -1,4 +1,4 @@
-use Rattle.std.proofs.Common.{◌≡◌, ◌-◌, length, take, refl, ap, ◌∙◌, arith, rules}
+use Rattle.std.proofs.Common.{◌-◌, length, take, ap, ◌∙◌, rules}
 use native.Mathlib.Nat.{sub-zero}
 use Rattle.wishbook.proofs.Whole.{remembered}
 use Rattle.wishbook.proofs.gathered.whole.remember.Goals as goal

@@ -1,4 +1,4 @@
-use Rattle.std.proofs.Common.{◌≡◌, length, get_or, set, refl, arith}
+use Rattle.std.proofs.Common.{get_or, refl, arith}
 use Rattle.std.proofs.lemmas.List.{length-set}
 use Rattle.wishbook.proofs.Whole.{mapped_more, mapped_all}
 use Rattle.wishbook.proofs.gathered.whole.roots.Goals as goal
