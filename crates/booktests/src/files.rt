@@ -3,7 +3,7 @@ use refusal::Fault;
 use rulebook::read_rule;
 use sitebook::read_site;
 use std::alloc::{AllocError, Global};
-use std::process::Abort;
+use std::fmt::Display;
 use std::test::Fail;
 use wishbook::read_wish;
 
@@ -113,26 +113,28 @@ pub fn close(words: &mut Vec<u32>) -> Result<(), AllocError> {
     Ok(())
 }
 
-pub fn edits(
-    rt: &impl Abort,
-    heap: Global,
-    reader: Reader,
-    parts: &[&[u32]],
-    rows: &[Edit],
-) -> Result<(), Fail> {
+// The answer is the one expected, or the test fails and says where.
+pub fn same<D: Display + Drop>(got: Answer, expected: Answer, place: D) -> Result<(), Fail> {
+    if got == expected {
+        Ok(())
+    } else {
+        Err(Fail::new(format_args!("{place}: {got:?} and not {expected:?}")))
+    }
+}
+
+pub fn edits(heap: Global, reader: Reader, parts: &[&[u32]], rows: &[Edit]) -> Result<(), Fail> {
     let base = joined(heap, parts)?;
     for row in rows {
         let (name, (at, out, put), expected) = *row;
         let mut words = spliced(heap, base.as_slice(), at, out, put)?;
         close(&mut words)?;
         let got = answer_to_words(heap, reader, words.as_slice())?;
-        assert_eq!(rt; got, expected, "{}", name);
+        same(got, expected, name)?;
     }
     Ok(())
 }
 
 pub fn endings(
-    rt: &impl Abort,
     heap: Global,
     reader: Reader,
     parts: &[&[u32]],
@@ -146,19 +148,13 @@ pub fn endings(
         for _ in 0..tail {
             file.push(255)?;
         }
-        assert_eq!(rt;
-            answer_to(heap, reader, file.as_slice()),
-            expected,
-            "{}",
-            name
-        );
+        same(answer_to(heap, reader, file.as_slice()), expected, name)?;
     }
     Ok(())
 }
 
 // Eight outcomes of given weights, from a place on: the word at weight 0, what each next one adds, and the weight's lowest bit.
 pub fn weighings(
-    rt: &impl Abort,
     heap: Global,
     reader: Reader,
     parts: &[&[u32]],
@@ -178,14 +174,13 @@ pub fn weighings(
         let mut words = spliced(heap, base.as_slice(), at, 8, put.as_slice())?;
         close(&mut words)?;
         let got = answer_to_words(heap, reader, words.as_slice())?;
-        assert_eq!(rt; got, expected, "weights {weights:?}");
+        same(got, expected, format_args!("weights {weights:?}"))?;
     }
     Ok(())
 }
 
 // Each unused bit alone is refused with 3.
 pub fn unused_bits(
-    rt: &impl Abort,
     heap: Global,
     reader: Reader,
     parts: &[&[u32]],
@@ -199,7 +194,7 @@ pub fn unused_bits(
             let put = [word | 1u32.rotate_left(bit)];
             let words = spliced(heap, base.as_slice(), at, 1, &put)?;
             let got = answer_to_words(heap, reader, words.as_slice())?;
-            assert_eq!(rt; got, (3, at), "word {at} with bit {bit}");
+            same(got, (3, at), format_args!("word {at} with bit {bit}"))?;
         }
     }
     Ok(())
@@ -207,7 +202,6 @@ pub fn unused_bits(
 
 // Each kind that may not come is refused with 2.
 pub fn wrong_kinds(
-    rt: &impl Abort,
     heap: Global,
     reader: Reader,
     parts: &[&[u32]],
@@ -222,7 +216,7 @@ pub fn wrong_kinds(
                 let put = [word | kind.rotate_left(28)];
                 let words = spliced(heap, base.as_slice(), at, 1, &put)?;
                 let got = answer_to_words(heap, reader, words.as_slice())?;
-                assert_eq!(rt; got, (2, at), "word {at} of kind {kind}");
+                same(got, (2, at), format_args!("word {at} of kind {kind}"))?;
             }
         }
     }
@@ -230,18 +224,18 @@ pub fn wrong_kinds(
 }
 
 // A book is accepted whole, and cut off after each of its bytes it is refused at the number of whole words.
-pub fn cuts(rt: &impl Abort, heap: Global, reader: Reader, parts: &[&[u32]]) -> Result<(), Fail> {
+pub fn cuts(heap: Global, reader: Reader, parts: &[&[u32]]) -> Result<(), Fail> {
     let mut words = joined(heap, parts)?;
     close(&mut words)?;
     let file = bytes_of(heap, words.as_slice())?;
-    assert_eq!(rt; answer_to(heap, reader, file.as_slice()), (0, 0), "whole");
+    same(answer_to(heap, reader, file.as_slice()), (0, 0), "whole")?;
     let bytes = file.as_slice();
     for kept in 0..bytes.len() {
-        assert_eq!(rt;
+        same(
             answer_to(heap, reader, &bytes[0..kept]),
             (1, kept / 4),
-            "{kept} bytes"
-        );
+            format_args!("{kept} bytes"),
+        )?;
     }
     Ok(())
 }

@@ -1,5 +1,6 @@
 // Rule books at the bounds of what is accepted.
 use crate::files::*;
+use std::test::Fail;
 
 // Three switches, two actions at words 1 and 4, of which the second has needs.
 static BASE: [&[u32]; 3] = [
@@ -448,32 +449,25 @@ static KINDS: [MayCome; 7] = [
 #[test]
 fn fields(rt: HostRuntime) -> Result<(), Fail> {
     let heap = rt.alloc();
-    edits(&rt, heap, Reader::Rule, &BASE, &HEADS)?;
-    edits(&rt, heap, Reader::Rule, &BASE, &ACTIONS)?;
-    edits(&rt, heap, Reader::Rule, &BASE, &OUTCOMES)?;
-    edits(&rt, heap, Reader::Rule, &TEN, &NEEDS)?;
-    edits(&rt, heap, Reader::Rule, &EIGHT, &FULL)?;
-    edits(&rt, heap, Reader::Rule, &MANY, &WIDTHS)?;
-    weighings(
-        &rt,
-        heap,
-        Reader::Rule,
-        &MANY,
-        (2, 0x80000000, 0, 20),
-        &WEIGHTS,
-    )
+    edits(heap, Reader::Rule, &BASE, &HEADS)?;
+    edits(heap, Reader::Rule, &BASE, &ACTIONS)?;
+    edits(heap, Reader::Rule, &BASE, &OUTCOMES)?;
+    edits(heap, Reader::Rule, &TEN, &NEEDS)?;
+    edits(heap, Reader::Rule, &EIGHT, &FULL)?;
+    edits(heap, Reader::Rule, &MANY, &WIDTHS)?;
+    weighings(heap, Reader::Rule, &MANY, (2, 0x80000000, 0, 20), &WEIGHTS)
 }
 
 #[test]
 fn bits_and_kinds(rt: HostRuntime) -> Result<(), Fail> {
     let heap = rt.alloc();
-    unused_bits(&rt, heap, Reader::Rule, &BASE, &UNUSED)?;
-    wrong_kinds(&rt, heap, Reader::Rule, &BASE, &KINDS)
+    unused_bits(heap, Reader::Rule, &BASE, &UNUSED)?;
+    wrong_kinds(heap, Reader::Rule, &BASE, &KINDS)
 }
 
 #[test]
 fn ends(rt: HostRuntime) -> Result<(), Fail> {
     let heap = rt.alloc();
-    endings(&rt, heap, Reader::Rule, &BASE, &ENDINGS)?;
-    cuts(&rt, heap, Reader::Rule, &BASE)
+    endings(heap, Reader::Rule, &BASE, &ENDINGS)?;
+    cuts(heap, Reader::Rule, &BASE)
 }

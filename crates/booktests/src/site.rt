@@ -1,6 +1,7 @@
 // Site books at the bounds of what is accepted.
 use crate::files::*;
 use std::alloc::{AllocError, Global};
+use std::test::Fail;
 
 // The built-in crossing: three states, two labels, two actions. Its entries begin at words 7, 10, 12 and 15.
 static CROSSING: [&[u32]; 8] = [
@@ -595,36 +596,29 @@ fn book_of(
 #[test]
 fn fields(rt: HostRuntime) -> Result<(), Fail> {
     let heap = rt.alloc();
-    edits(&rt, heap, Reader::Site, &CROSSING, &HEADS)?;
-    edits(&rt, heap, Reader::Site, &CROSSING, &STATES)?;
-    edits(&rt, heap, Reader::Site, &CROSSING, &ENTRIES)?;
-    edits(&rt, heap, Reader::Site, &CROSSING, &OUTCOMES)?;
-    edits(&rt, heap, Reader::Site, &WIDE, &WIDTHS)?;
-    edits(&rt, heap, Reader::Site, &ONE, &SMALL)?;
-    edits(&rt, heap, Reader::Site, &ACTIONS, &LAST_ACTION)?;
-    edits(&rt, heap, Reader::Site, &CROSSING, &WHOLES)?;
-    weighings(
-        &rt,
-        heap,
-        Reader::Site,
-        &WIDE,
-        (18, 0x50000000, 1, 12),
-        &WEIGHTS,
-    )
+    edits(heap, Reader::Site, &CROSSING, &HEADS)?;
+    edits(heap, Reader::Site, &CROSSING, &STATES)?;
+    edits(heap, Reader::Site, &CROSSING, &ENTRIES)?;
+    edits(heap, Reader::Site, &CROSSING, &OUTCOMES)?;
+    edits(heap, Reader::Site, &WIDE, &WIDTHS)?;
+    edits(heap, Reader::Site, &ONE, &SMALL)?;
+    edits(heap, Reader::Site, &ACTIONS, &LAST_ACTION)?;
+    edits(heap, Reader::Site, &CROSSING, &WHOLES)?;
+    weighings(heap, Reader::Site, &WIDE, (18, 0x50000000, 1, 12), &WEIGHTS)
 }
 
 #[test]
 fn bits_and_kinds(rt: HostRuntime) -> Result<(), Fail> {
     let heap = rt.alloc();
-    unused_bits(&rt, heap, Reader::Site, &CROSSING, &UNUSED)?;
-    wrong_kinds(&rt, heap, Reader::Site, &CROSSING, &KINDS)
+    unused_bits(heap, Reader::Site, &CROSSING, &UNUSED)?;
+    wrong_kinds(heap, Reader::Site, &CROSSING, &KINDS)
 }
 
 #[test]
 fn ends(rt: HostRuntime) -> Result<(), Fail> {
     let heap = rt.alloc();
-    endings(&rt, heap, Reader::Site, &CROSSING, &ENDINGS)?;
-    cuts(&rt, heap, Reader::Site, &CROSSING)
+    endings(heap, Reader::Site, &CROSSING, &ENDINGS)?;
+    cuts(heap, Reader::Site, &CROSSING)
 }
 
 #[test]
@@ -636,11 +630,13 @@ fn sizes(rt: HostRuntime) -> Result<(), Fail> {
         words.truncate(words.len().saturating_sub(short));
         close(&mut words)?;
         let got = answer_to_words(heap, Reader::Site, words.as_slice())?;
-        assert_eq!(rt;
+        same(
             got,
             expected,
-            "{states} states, {actions} actions, {outcomes} outcomes, {short} words short"
-        );
+            format_args!(
+                "{states} states, {actions} actions, {outcomes} outcomes, {short} words short"
+            ),
+        )?;
     }
     Ok(())
 }

@@ -1,6 +1,7 @@
 // Wish books at the bounds of what is accepted.
 use crate::files::*;
 use std::alloc::{AllocError, Global};
+use std::test::Fail;
 
 // Every kind of node, at words 0 to 9, and two rewards.
 static BASE: [&[u32]; 4] = [
@@ -444,24 +445,24 @@ fn chained(heap: Global, steps: (Step, Step), len: u32, node: u32) -> Result<Vec
 #[test]
 fn fields(rt: HostRuntime) -> Result<(), Fail> {
     let heap = rt.alloc();
-    edits(&rt, heap, Reader::Wish, &BASE, &NODES)?;
-    edits(&rt, heap, Reader::Wish, &BASE, &REWARDS)?;
-    edits(&rt, heap, Reader::Wish, &TWO, &ITEMS)
+    edits(heap, Reader::Wish, &BASE, &NODES)?;
+    edits(heap, Reader::Wish, &BASE, &REWARDS)?;
+    edits(heap, Reader::Wish, &TWO, &ITEMS)
 }
 
 #[test]
 fn bits_and_kinds(rt: HostRuntime) -> Result<(), Fail> {
     let heap = rt.alloc();
-    unused_bits(&rt, heap, Reader::Wish, &BASE, &UNUSED)?;
-    wrong_kinds(&rt, heap, Reader::Wish, &BASE, &KINDS)
+    unused_bits(heap, Reader::Wish, &BASE, &UNUSED)?;
+    wrong_kinds(heap, Reader::Wish, &BASE, &KINDS)
 }
 
 #[test]
 fn ends(rt: HostRuntime) -> Result<(), Fail> {
     let heap = rt.alloc();
-    endings(&rt, heap, Reader::Wish, &BASE, &ENDINGS)?;
-    endings(&rt, heap, Reader::Wish, &SEVENTEEN, &FULL_ENDINGS)?;
-    cuts(&rt, heap, Reader::Wish, &BASE)
+    endings(heap, Reader::Wish, &BASE, &ENDINGS)?;
+    endings(heap, Reader::Wish, &SEVENTEEN, &FULL_ENDINGS)?;
+    cuts(heap, Reader::Wish, &BASE)
 }
 
 #[test]
@@ -471,17 +472,21 @@ fn sizes(rt: HostRuntime) -> Result<(), Fail> {
         let (nodes, rewards, reward, expected) = *row;
         let words = repeated(heap, nodes, rewards, reward)?;
         let got = answer_to_words(heap, Reader::Wish, words.as_slice())?;
-        assert_eq!(rt;
+        same(
             got,
             expected,
-            "{nodes} nodes, {rewards} rewards {reward:x}"
-        );
+            format_args!("{nodes} nodes, {rewards} rewards {reward:x}"),
+        )?;
     }
     for row in &CHAINS {
         let (name, steps, (len, node), expected) = *row;
         let words = chained(heap, steps, len, node)?;
         let got = answer_to_words(heap, Reader::Wish, words.as_slice())?;
-        assert_eq!(rt; got, expected, "{name}, {len} nodes, reward of {node}");
+        same(
+            got,
+            expected,
+            format_args!("{name}, {len} nodes, reward of {node}"),
+        )?;
     }
     Ok(())
 }

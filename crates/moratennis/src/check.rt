@@ -1,14 +1,16 @@
 // Says what a book holds, or why it is refused.
-use crate::crossing::refused;
+use crate::crossing::say_refusal;
 use crate::show;
 use anyhow::anyhow;
 use model::Numbered;
+use refusal::Fault;
 use rulebook::read_rule;
 use sitebook::read_site;
 use std::fs;
+use std::process::ExitCode;
 use wishbook::read_wish;
 
-pub fn run(rt: &HostRuntime, kind: &str, file: &str) -> anyhow::Result<()> {
+pub fn run(rt: &HostRuntime, kind: &str, file: &str) -> anyhow::Result<ExitCode> {
     let bytes = match fs::read(rt, file) {
         Ok(bytes) => bytes,
         Err(error) => return Err(error.into()),
@@ -19,6 +21,12 @@ pub fn run(rt: &HostRuntime, kind: &str, file: &str) -> anyhow::Result<()> {
         "wish" => wish(rt, bytes.as_slice()),
         _ => Err(anyhow!("a book is of kind site, rule or wish")),
     }
+}
+
+// Says why a book is refused; the status says that it is.
+fn refused(rt: &HostRuntime, fault: Fault) -> anyhow::Result<ExitCode> {
+    say_refusal(rt, fault)?;
+    Ok(ExitCode::FAILURE)
 }
 
 // The sizes of a model.
@@ -35,28 +43,35 @@ fn sizes<M: Numbered>(rt: &HostRuntime, kind: &str, model: &M) -> anyhow::Result
     Ok(())
 }
 
-fn site(rt: &HostRuntime, bytes: &[u8]) -> anyhow::Result<()> {
+fn site(rt: &HostRuntime, bytes: &[u8]) -> anyhow::Result<ExitCode> {
     match read_site(rt.alloc(), bytes) {
-        Ok(book) => sizes(rt, "site", &book),
+        Ok(book) => {
+            sizes(rt, "site", &book)?;
+            Ok(ExitCode::SUCCESS)
+        }
         Err(fault) => refused(rt, fault),
     }
 }
 
-fn rule(rt: &HostRuntime, bytes: &[u8]) -> anyhow::Result<()> {
+fn rule(rt: &HostRuntime, bytes: &[u8]) -> anyhow::Result<ExitCode> {
     match read_rule(bytes) {
-        Ok(book) => sizes(rt, "rule", &book),
+        Ok(book) => {
+            sizes(rt, "rule", &book)?;
+            Ok(ExitCode::SUCCESS)
+        }
         Err(fault) => refused(rt, fault),
     }
 }
 
-fn wish(rt: &HostRuntime, bytes: &[u8]) -> anyhow::Result<()> {
+fn wish(rt: &HostRuntime, bytes: &[u8]) -> anyhow::Result<ExitCode> {
     match read_wish(bytes) {
         Ok(book) => {
             let nodes = book.nodes().len();
             let items = book.items().len();
             let wishes = book.wishes().len();
             println!(rt; "wish book: {nodes} nodes, {items} memory items, {wishes} wishes")?;
-            show::wishes(rt, &book)
+            show::wishes(rt, &book)?;
+            Ok(ExitCode::SUCCESS)
         }
         Err(fault) => refused(rt, fault),
     }

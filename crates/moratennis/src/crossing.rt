@@ -104,12 +104,18 @@ fn slot(
 }
 
 // Says why a book is refused.
-pub fn refused(rt: &HostRuntime, fault: Fault) -> anyhow::Result<()> {
+pub fn say_refusal(rt: &HostRuntime, fault: Fault) -> anyhow::Result<()> {
     let place = fault.place;
     let sentence = fault.refusal.sentence();
     match fault.refusal.number() {
         Some(number) => println!(rt; "refused: {number} at word {place}: {sentence}")?,
         None => println!(rt; "not read: {sentence}")?,
     }
+    Ok(())
+}
+
+// The built-in books are good ones: a refusal is an error here.
+fn refused(rt: &HostRuntime, fault: Fault) -> anyhow::Result<()> {
+    say_refusal(rt, fault)?;
     Err(anyhow!("the book was not read"))
 }

@@ -6,17 +6,21 @@ mod check;
 mod crossing;
 mod show;
 
-use anyhow::anyhow;
 use std::env;
+use std::process::ExitCode;
 
-fn main(rt: HostRuntime) -> anyhow::Result<()> {
+// A refused book and a wrong command line end with status 1 and no more words.
+fn main(rt: HostRuntime) -> anyhow::Result<ExitCode> {
     let heap = rt.alloc();
     let mut words = Vec::new(heap);
     for word in env::args(&rt)?.skip(1) {
         words.push(word)?;
     }
     match words.as_slice() {
-        [] => crossing::run(&rt),
+        [] => {
+            crossing::run(&rt)?;
+            Ok(ExitCode::SUCCESS)
+        }
         [command, kind, file] if command.as_str() == "check" => check::run(
             &rt,
             kind.as_str(),
@@ -26,12 +30,12 @@ fn main(rt: HostRuntime) -> anyhow::Result<()> {
     }
 }
 
-fn usage(rt: &HostRuntime) -> anyhow::Result<()> {
+fn usage(rt: &HostRuntime) -> anyhow::Result<ExitCode> {
     rt.eprintln(
         "usage: moratennis                             the built-in crossing, start to end",
     )?;
     rt.eprintln(
         "       moratennis check site|rule|wish FILE   what a book holds, or why it is refused",
     )?;
-    Err(anyhow!("wrong command line"))
+    Ok(ExitCode::FAILURE)
 }
