@@ -1,0 +1,3 @@
+// Planning back from a horizon: what a plan answers and leaves in its tables.
+
+#![tactic(auto)]
