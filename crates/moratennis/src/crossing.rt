@@ -115,7 +115,7 @@ pub fn say_refusal(rt: &HostRuntime, fault: Fault) -> anyhow::Result<()> {
 }
 
 // The built-in books are good ones: a refusal is an error here.
-fn refused(rt: &HostRuntime, fault: Fault) -> anyhow::Result<()> {
+pub fn refused(rt: &HostRuntime, fault: Fault) -> anyhow::Result<()> {
     say_refusal(rt, fault)?;
     Err(anyhow!("the book was not read"))
 }

@@ -1,4 +1,4 @@
--- What writing out answers, and what it Leaves in the two tables.
+-- What writing out answers, and what it leaves in the two tables.
 use Rattle.std.specs.Prelude.{◌≡◌, ℕ, ◌+◌, ◌*◌, ◌<◌, ◌≤◌, min, Bool, cond, List, [], ◌∷◌, ◌++◌, length, Some, None, Ok, Err, Option, Result, nat_lt}
 use Rattle.model.specs.Models.{Model}
 use Rattle.pen.specs.Bytes.{padded}
