@@ -99,6 +99,13 @@ done = {f: respell(f) for f in antt + rt}
 for f, body in done.items():
     if body != text[f]:
         open(f, "w").write(body)
+# respell.py gave the states of a rule book the name of a layer's
+for f in antt:
+    if f.startswith(("crates/rulemodel/", "crates/rulebook/")):
+        body = open(f).read()
+        new = body.replace("is_layer_state", "is_switch_mask")
+        if new != body:
+            open(f, "w").write(new)
 for f in glob.glob("crates/pile/must-fail/*.edit"):
     body = open(f).read()
     new = body.replace("Footing::new(ground)", "Footing::new(bottom)").replace("self.ground.", "self.bottom.")

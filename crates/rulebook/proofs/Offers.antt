@@ -4,7 +4,7 @@ use Rattle.std.proofs.lemmas.List.{get_or-map, get_or-take, length-take-le}
 use Rattle.std.proofs.lemmas.Bool.{cond-true, and_from, and_left, and_right, lt-ltb, le-ltb}
 use Rattle.model.specs.declared.Outcome.{Outcome}
 use Rattle.rulelayout.specs.Rule.{Act, Rule, valid}
-use Rattle.rulemodel.specs.Meaning.{landings, outcomes_from, met, no_act, act_at, is_layer_state, offers, rule_model}
+use Rattle.rulemodel.specs.Meaning.{landings, outcomes_from, met, no_act, act_at, is_switch_mask, offers, rule_model}
 use Rattle.rulemodel.proofs.RuleLaws.{act_parts}
 use Rattle.rulemodel.proofs.Turns.{all_light}
 use Rattle.rulebook.specs.declared.action.Action.{Action}
@@ -16,18 +16,18 @@ act_there n acts a d h fits =
     ∙ ap act_from (get_or-take n acts a d h)
 
 pub no_state : (b : Rule) (s a : ℕ) → 2 ^ b.switches ≤ s → offers b s a ≡ false
-no_state b s a h = and_left (is_layer_state b s) _ (le-ltb s (2 ^ b.switches) h)
+no_state b s a h = and_left (is_switch_mask b s) _ (le-ltb s (2 ^ b.switches) h)
 
 pub no_action : (b : Rule) (s a : ℕ) → length b.acts ≤ a → offers b s a ≡ false
-no_action b s a h = and_right (is_layer_state b s) _ (and_left (ltb a (length b.acts)) _ (le-ltb a (length b.acts) h))
+no_action b s a h = and_right (is_switch_mask b s) _ (and_left (ltb a (length b.acts)) _ (le-ltb a (length b.acts) h))
 
 pub needs_unmet : (b : Rule) (s a : ℕ) (x : Act) → act_at b a ≡ x → met s x ≡ false → offers b s a ≡ false
 needs_unmet b s a x e f =
-    and_right (is_layer_state b s) _ (and_right (ltb a (length b.acts)) (met s (act_at b a)) (ap (met s) e ∙ f))
+    and_right (is_switch_mask b s) _ (and_right (ltb a (length b.acts)) (met s (act_at b a)) (ap (met s) e ∙ f))
 
 pub needs_met : (b : Rule) (s a : ℕ) (x : Act) → s < 2 ^ b.switches → a < length b.acts → act_at b a ≡ x → met s x ≡ true → offers b s a ≡ true
 needs_met b s a x hs ha e t =
-    and_from (is_layer_state b s) _ (lt-ltb s (2 ^ b.switches) hs)
+    and_from (is_switch_mask b s) _ (lt-ltb s (2 ^ b.switches) hs)
     (and_from (ltb a (length b.acts)) (met s (act_at b a)) (lt-ltb a (length b.acts) ha) (ap (met s) e ∙ t))
 
 -- the outcomes of an action that is offered

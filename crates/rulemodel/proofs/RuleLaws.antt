@@ -10,7 +10,7 @@ use Rattle.words.specs.Tests.{all, within}
 use Rattle.words.proofs.Tests.{all_at, within_parts}
 use Rattle.rulelayout.specs.declared.Effect.{Effect}
 use Rattle.rulelayout.specs.Rule.{Act, Rule, valid, total, in_range, fits, good_effect, good_act, good_head, waits}
-use Rattle.rulemodel.specs.Meaning.{landing, landings, met, no_act, act_at, is_layer_state, offers, rule_model}
+use Rattle.rulemodel.specs.Meaning.{landing, landings, met, no_act, act_at, is_switch_mask, offers, rule_model}
 use Rattle.rulemodel.proofs.Gathering.{targets_kept, total_onto, length-onto, some_landings, all_landings}
 
 -- what a valid book's parts come to
@@ -26,7 +26,7 @@ actions_few b v =
     let rest = (and_parts (within 1 10 b.switches) _ head).1 in
     within_parts 1 8 (length b.acts) (and_parts (within 1 8 (length b.acts)) _ rest).0
 
-start_state : (b : Rule) → valid b ≡ true → is_layer_state b b.start ≡ true
+start_state : (b : Rule) → valid b ≡ true → is_switch_mask b b.start ≡ true
 start_state b v =
     let head = (and_parts (good_head b.switches (length b.acts) b.start) _ v).0 in
     let rest = (and_parts (within 1 10 b.switches) _ head).1 in
@@ -60,7 +60,7 @@ good_parts n a g =
 
 pub act_parts : (b : Rule) → valid b ≡ true → (s a : ℕ) → offers b s a ≡ true → Good b.switches (act_at b a).effects
 act_parts b v s a o =
-    let here = (and_parts (ltb a (length b.acts)) _ (and_parts (is_layer_state b s) _ o).1).0 in
+    let here = (and_parts (ltb a (length b.acts)) _ (and_parts (is_switch_mask b s) _ o).1).0 in
     good_parts b.switches (act_at b a) (act_good b v a (ltb-true a (length b.acts) here))
 
 -- an outcome lands in a state, with a weight of 1 at least
@@ -114,11 +114,11 @@ module _ (b : Rule) (s a : ℕ) where
   outcomes_both P there none = cond_both (offers b s a) (landings s (act_at b a).effects) [] P there (λ _. none)
 
   offered_state : offers b s a ≡ true → s < 2 ^ b.switches
-  offered_state o = ltb-true s (2 ^ b.switches) (and_parts (is_layer_state b s) _ o).0
+  offered_state o = ltb-true s (2 ^ b.switches) (and_parts (is_switch_mask b s) _ o).0
 
-below_all : (b : Rule) (s : ℕ) → cond (is_layer_state b s) s 0 < 2 ^ b.switches
+below_all : (b : Rule) (s : ℕ) → cond (is_switch_mask b s) s 0 < 2 ^ b.switches
 below_all b s =
-    cond_both (is_layer_state b s) s 0 (λ (n : ℕ). n < 2 ^ b.switches) (λ e. ltb-true s (2 ^ b.switches) e) (λ e. pow_pos b.switches)
+    cond_both (is_switch_mask b s) s 0 (λ (n : ℕ). n < 2 ^ b.switches) (λ e. ltb-true s (2 ^ b.switches) e) (λ e. pow_pos b.switches)
 
 first_met : (s : ℕ) (a : Act) → a.on ≡ 0 → a.off ≡ 0 → met s a ≡ true
 first_met s a on off =
@@ -129,11 +129,11 @@ first_met s a on off =
 pub states_few : (b : Rule) → valid b ≡ true → 2 ^ b.switches ≤ 1024
 states_few b v = pow_mono {j = 10} (switches_few b v).1
 
-wait_offered : (b : Rule) → valid b ≡ true → (s : ℕ) → is_layer_state b s ≡ true → offers b s 0 ≡ true
+wait_offered : (b : Rule) → valid b ≡ true → (s : ℕ) → is_switch_mask b s ≡ true → offers b s 0 ≡ true
 wait_offered b v s e =
     let rest = (and_parts (good_head b.switches (length b.acts) b.start) _ v).1 in
     let free = first_free b.acts (and_parts (all (good_act b.switches) b.acts) (waits b.acts) rest).1 in
-    and_from (is_layer_state b s) _ e
+    and_from (is_switch_mask b s) _ e
     (and_from (ltb 0 (length b.acts)) _ (lt-ltb 0 (length b.acts) (actions_few b v).0) (first_met s (act_at b 0) free.0 free.1))
 
 pub rule_lawful : (b : Rule) → valid b ≡ true → Lawful (rule_model b)
@@ -144,7 +144,7 @@ rule_lawful b v = record {
   acts = actions_few b v;
   offers =
       λ s a o.
-      let parts = and_parts (is_layer_state b s) _ o in
+      let parts = and_parts (is_switch_mask b s) _ o in
       (parts.0, ltb-true a (length b.acts) (and_parts (ltb a (length b.acts)) _ parts.1).0);
   waits = wait_offered b v;
   some =
@@ -158,7 +158,7 @@ rule_lawful b v = record {
       (omega arith);
   targets =
       λ s a j d.
-      outcomes_both b s a (λ (os : List Outcome). j < length os → is_layer_state b (get_or os j d).target ≡ true)
+      outcomes_both b s a (λ (os : List Outcome). j < length os → is_switch_mask b (get_or os j d).target ≡ true)
       (λ o h.
       all_at (λ (w : Outcome). ltb w.target (2 ^ b.switches)) (landings s (act_at b a).effects) j d
       (targets_within b.switches s (act_at b a).effects (offered_state b s a o) (act_parts b v s a o).each)
@@ -190,14 +190,14 @@ rule_lawful b v = record {
   bounded = λ s. omega arith;
   modest = omega arith;
   grounded = λ s. omega (arith, below_all b s, states_few b v);
-  no_mask = λ s e. cond-false (is_layer_state b s) s 0 e;
+  no_mask = λ s e. cond-false (is_switch_mask b s) s 0 e;
   no_reward = λ s e. refl;
-  no_ground = λ s e. cond-false (is_layer_state b s) s 0 e;
+  no_ground = λ s e. cond-false (is_switch_mask b s) s 0 e;
   silent = λ s a o. cond-false (offers b s a) (landings s (act_at b a).effects) [] o;
 }
 
 pub rule_ground : (b : Rule) → valid b ≡ true → Ground (rule_model b)
-rule_ground b v = record { own = λ s e. cond-true (is_layer_state b s) s 0 e; small = omega (arith, states_few b v) }
+rule_ground b v = record { own = λ s e. cond-true (is_switch_mask b s) s 0 e; small = omega (arith, states_few b v) }
 
 pub rule_numbered : (b : Rule) → valid b ≡ true → NumberedBy (rule_model b)
 rule_numbered b v = record { below = λ s. refl; small = omega (arith, states_few b v) }

@@ -82,19 +82,19 @@ no_act = record { on = 0; off = 0; effects = [] }
 abbrev pub act_at : Rule → ℕ → Act
 act_at b a = slice_index_or b.acts a no_act
 
-abbrev pub is_layer_state : Rule → ℕ → Bool
-is_layer_state b s = nat_lt s (2 ^ b.switches)
+abbrev pub is_switch_mask : Rule → ℕ → Bool
+is_switch_mask b s = nat_lt s (2 ^ b.switches)
 
 abbrev pub offers : Rule → ℕ → ℕ → Bool
-offers b s a = is_layer_state b s && (nat_lt a (length b.acts) && met s (act_at b a))
+offers b s a = is_switch_mask b s && (nat_lt a (length b.acts) && met s (act_at b a))
 
 abbrev pub rule_model : Rule → Model
 rule_model b = record {
   start = b.start;
-  state = λ s. is_layer_state b s;
-  mask = λ s. cond (is_layer_state b s) s 0;
+  state = λ s. is_switch_mask b s;
+  mask = λ s. cond (is_switch_mask b s) s 0;
   reward = λ s. pos 0;
-  site = λ s. cond (is_layer_state b s) s 0;
+  site = λ s. cond (is_switch_mask b s) s 0;
   offered = λ s a. offers b s a;
   outcomes = λ s a. cond (offers b s a) (landings s (act_at b a).effects) [];
   labels = b.switches;

@@ -3,7 +3,7 @@
 
 #![tactic(auto)]
 
-ghost use Rattle.std.specs.Prelude.{◌≡◌, ◌+◌, ◌<◌, ◌≤◌, length, set, nat_eq, slice_set};
+ghost use Rattle.std.specs.Prelude.{◌≡◌, ◌+◌, ◌<◌, ◌≤◌, length, nat_eq, slice_set};
 ghost use Rattle.model.specs.Ways.{listed};
 ghost use Rattle.register.specs.Keys.{place_of};
 ghost use Rattle.rulelayout.specs.Rule.{total};

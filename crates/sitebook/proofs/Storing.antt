@@ -1,5 +1,5 @@
 -- The tables follow the draft of the book that is being read, and at the end they hold the book. For others: `Storing`, what
--- is known of the pass so far, and the `storing-` lemmas, one for each thing that the pass does.
+-- is known of the pass so far, and the `storing_` lemmas, one for each thing that the pass does.
 use Rattle.std.proofs.Common.{◌≡◌, ℕ, zero, suc, ◌+◌, ◌-◌, ◌*◌, ◌%◌, ◌^◌, ◌<◌, ◌≤◌, Bool, true, not, ◌&&◌, eqb, ltb, leb, List, [], ◌∷◌, ◌++◌, length, get_or, drop, replicate, Some, None, Ok, Err, Result, sym, refl, ap, ◌∙◌, subst, inl, inr, zero-add, arith}
 use Rattle.std.proofs.lemmas.Nat.{mul-le}
 use Rattle.std.proofs.lemmas.List.{append_assoc, replicate_more}
