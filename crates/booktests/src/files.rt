@@ -1,4 +1,6 @@
 // Files made from rows of tables, and what the readers answer to them.
+ghost use Rattle.std.specs.Prelude.{◌≡◌, ◌≢◌, OnOk, OnErr};
+
 use refusal::Fault;
 use rulebook::read_rule;
 use sitebook::read_site;
@@ -114,7 +116,10 @@ pub fn close(words: &mut Vec<u32>) -> Result<(), AllocError> {
 }
 
 // The answer is the one expected, or the test fails and says where.
-pub fn same<D: Display + Drop>(got: Answer, expected: Answer, place: D) -> Result<(), Fail> {
+pub fn same<D: Display + Drop>(got: Answer, expected: Answer, place: D) -> Result<(), Fail>
+    ensures passes { OnOk result (got ≡ expected) }
+    ensures fails { OnErr result (got ≢ expected) }
+{
     if got == expected {
         Ok(())
     } else {

@@ -1,4 +1,12 @@
 // Says what a book holds, or why it is refused.
+ghost use Rattle.moratennis.specs.Status.{status_of};
+ghost use Rattle.rulelayout.specs.Layout.{rule_format};
+ghost use Rattle.sitelayout.specs.Layout.{site_format};
+ghost use Rattle.std.specs.Prelude.{◌≡◌, ◌⊎◌, IfOk};
+ghost use Rattle.std.specs.Process.{exit_status};
+ghost use Rattle.wishlayout.specs.Layout.{wish_format};
+ghost use Rattle.words.specs.Format.{reading};
+
 use crate::crossing::say_refusal;
 use crate::show;
 use anyhow::anyhow;
@@ -24,7 +32,9 @@ pub fn run(rt: &HostRuntime, kind: &str, file: &str) -> anyhow::Result<ExitCode>
 }
 
 // Says why a book is refused; the status says that it is.
-fn refused(rt: &HostRuntime, fault: Fault) -> anyhow::Result<ExitCode> {
+fn refused(rt: &HostRuntime, fault: Fault) -> anyhow::Result<ExitCode>
+    ensures { IfOk result (λ code. exit_status code ≡ 1) }
+{
     say_refusal(rt, fault)?;
     Ok(ExitCode::FAILURE)
 }
@@ -43,7 +53,10 @@ fn sizes<M: Numbered>(rt: &HostRuntime, kind: &str, model: &M) -> anyhow::Result
     Ok(())
 }
 
-fn site(rt: &HostRuntime, bytes: &[u8]) -> anyhow::Result<ExitCode> {
+// Want of memory may refuse a good site book; a bad one never ends with 0.
+fn site(rt: &HostRuntime, bytes: &[u8]) -> anyhow::Result<ExitCode>
+    ensures { IfOk result (λ code. (exit_status code ≡ status_of (reading site_format bytes.now)) ⊎ (exit_status code ≡ 1)) }
+{
     match read_site(rt.alloc(), bytes) {
         Ok(book) => {
             sizes(rt, "site", &book)?;
@@ -53,7 +66,9 @@ fn site(rt: &HostRuntime, bytes: &[u8]) -> anyhow::Result<ExitCode> {
     }
 }
 
-fn rule(rt: &HostRuntime, bytes: &[u8]) -> anyhow::Result<ExitCode> {
+fn rule(rt: &HostRuntime, bytes: &[u8]) -> anyhow::Result<ExitCode>
+    ensures { IfOk result (λ code. exit_status code ≡ status_of (reading rule_format bytes.now)) }
+{
     match read_rule(bytes) {
         Ok(book) => {
             sizes(rt, "rule", &book)?;
@@ -63,7 +78,9 @@ fn rule(rt: &HostRuntime, bytes: &[u8]) -> anyhow::Result<ExitCode> {
     }
 }
 
-fn wish(rt: &HostRuntime, bytes: &[u8]) -> anyhow::Result<ExitCode> {
+fn wish(rt: &HostRuntime, bytes: &[u8]) -> anyhow::Result<ExitCode>
+    ensures { IfOk result (λ code. exit_status code ≡ status_of (reading wish_format bytes.now)) }
+{
     match read_wish(bytes) {
         Ok(book) => {
             let nodes = book.nodes().len();

@@ -2,6 +2,9 @@
 
 #![tactic(auto)]
 
+ghost use Rattle.std.specs.Prelude.{◌≡◌, IfOk};
+ghost use Rattle.std.specs.Process.{exit_status};
+
 mod check;
 mod crossing;
 mod show;
@@ -30,7 +33,9 @@ fn main(rt: HostRuntime) -> anyhow::Result<ExitCode> {
     }
 }
 
-fn usage(rt: &HostRuntime) -> anyhow::Result<ExitCode> {
+fn usage(rt: &HostRuntime) -> anyhow::Result<ExitCode>
+    ensures { IfOk result (λ code. exit_status code ≡ 1) }
+{
     rt.eprintln(
         "usage: moratennis                             the built-in crossing, start to end",
     )?;
