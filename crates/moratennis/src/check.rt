@@ -1,5 +1,5 @@
 // Says what a book holds, or why it is refused.
-ghost use Rattle.moratennis.specs.Status.{status_of};
+ghost use Rattle.moratennis.specs.Status.{status_of, status_told};
 ghost use Rattle.rulelayout.specs.Layout.{rule_format};
 ghost use Rattle.sitelayout.specs.Layout.{site_format};
 ghost use Rattle.std.specs.Prelude.{◌≡◌, ◌⊎◌, IfOk};
@@ -13,7 +13,7 @@ use anyhow::anyhow;
 use model::Numbered;
 use refusal::Fault;
 use rulebook::read_rule;
-use sitebook::read_site;
+use sitebook::{SiteBook, read_site};
 use std::fs;
 use std::process::ExitCode;
 use wishbook::read_wish;
@@ -57,7 +57,13 @@ fn sizes<M: Numbered>(rt: &HostRuntime, kind: &str, model: &M) -> anyhow::Result
 fn site(rt: &HostRuntime, bytes: &[u8]) -> anyhow::Result<ExitCode>
     ensures { IfOk result (λ code. (exit_status code ≡ status_of (reading site_format bytes.now)) ⊎ (exit_status code ≡ 1)) }
 {
-    match read_site(rt.alloc(), bytes) {
+    site_told(rt, read_site(rt.alloc(), bytes))
+}
+
+fn site_told(rt: &HostRuntime, read: Result<SiteBook, Fault>) -> anyhow::Result<ExitCode>
+    ensures { IfOk result (λ code. exit_status code ≡ status_told read) }
+{
+    match read {
         Ok(book) => {
             sizes(rt, "site", &book)?;
             Ok(ExitCode::SUCCESS)
