@@ -1,4 +1,3 @@
 pub mod Models
-pub mod Ways
 pub mod Idle
 pub mod Histories

@@ -1,5 +1,5 @@
 -- What a site model means: a Markov decision process with labels, its chances counted in eighths.
--- A model has an answer for every number; a number that is no state has mask, reward and ground 0 and offers nothing.
+-- A model has an answer for every number; one that is no state has mask, reward and site 0 and offers nothing.
 -- `Lawful` has the laws of every site model, `Ground` those of a ground model and `NumberedBy` those of a numbered one.
 use Rattle.std.specs.Prelude.{◌≡◌, ℕ, ◌+◌, ◌^◌, ◌<◌, ◌≤◌, Bool, true, false, List, [], ◌∷◌, length, ℤ, pos, Option, nat_lt, slice_index_or, unsigned_abs}
 use Rattle.std.specs.Option.{option_map}

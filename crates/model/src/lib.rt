@@ -2,25 +2,28 @@
 
 #![tactic(auto)]
 
+ghost use Rattle.bounded.specs.Listed.{listed};
 ghost use Rattle.std.specs.Prelude.{◌≡◌, ℕ, ◌≤◌, true, IfSome, nat_lt};
 ghost use Rattle.model.specs.Models.{Model, Lawful, Ground, NumberedBy, target_at};
-ghost use Rattle.model.specs.Ways.{listed};
+
+use bounded::Bounded;
 
 mod still;
-mod ways;
 
 pub use still::Idle;
-pub use ways::Outcomes;
 
 // One outcome of an action: the state that it leads to and its chance in eighths.
-#[derive(Clone, Copy)]
+#[derive(Clone, Copy, Debug, Default, PartialEq, Eq)]
 pub struct Outcome {
     pub target: u64,
     pub weight: u8,
 }
 
+// At most eight outcomes in order, held by value.
+pub type Outcomes = Bounded<Outcome, 8>;
+
 // How many labels and actions a model has, its reward bound and its span.
-#[derive(Clone, Copy)]
+#[derive(Clone, Copy, Debug, PartialEq, Eq)]
 pub struct Sizes {
     pub labels: u32,
     pub actions: u32,
@@ -107,8 +110,5 @@ pub fn reachable_at<M: SiteModel>(m: &M, s: u64, a: u32, j: usize) -> Option<u64
     ensures target { result ≡ target_at (M.SiteModel.meaning m.now) s a j }
     ensures state { IfSome result (λ t. (M.SiteModel.meaning m.now).state t ≡ true) }
 {
-    match m.outcomes(s, a).get(j) {
-        Some(way) => Some(way.target),
-        None => None,
-    }
+    Some(m.outcomes(s, a).get(j)?.target)
 }

@@ -4,7 +4,7 @@ ghost use Rattle.std.proofs.Common.{rules};
 
 use crate::{GroundModel, Numbered, Outcome, Outcomes, SiteModel, Sizes};
 
-#[derive(Clone, Copy)]
+#[derive(Clone, Copy, Debug, PartialEq, Eq)]
 pub struct Idle;
 
 impl SiteModel for Idle {
@@ -43,7 +43,7 @@ impl SiteModel for Idle {
                 weight: 8,
             }])
         } else {
-            Outcomes::none()
+            Outcomes::new()
         }
     }
 

@@ -3,35 +3,40 @@
 #![tactic(auto)]
 
 ghost use Rattle.std.specs.Prelude.{◌≡◌};
+ghost use Rattle.refusal.specs.declared.Refusal.TheVariants.{Memory};
 ghost use Rattle.refusal.specs.Numbers.{number as number_of, Apart, sentence as sentence_of};
 
-#[derive(Clone, Copy, Debug)]
+use std::alloc::AllocError;
+use std::error::Error;
+use std::fmt;
+
+#[derive(Clone, Copy, Debug, PartialEq, Eq)]
 pub enum Refusal {
-    CutOff,
-    WrongKind,
-    UnusedBit,
-    OutOfRange,
-    WrongEnd,
-    WrongTotal,
-    NotRising,
-    NoWait,
-    SwitchTwice,
-    TooManyItems,
-    NoSuchLabel,
-    BoundPassed,
-    SpanPassed,
-    TooManyStates,
-    BookTableShort,
-    HorizonTooLong,
-    PlanTableShort,
-    NotOffered,
-    NoSuchOutcome,
-    LastSlot,
-    Memory,
+    CutOff = 1,
+    WrongKind = 2,
+    UnusedBit = 3,
+    OutOfRange = 4,
+    WrongEnd = 5,
+    WrongTotal = 6,
+    NotRising = 7,
+    NoWait = 8,
+    SwitchTwice = 9,
+    TooManyItems = 10,
+    NoSuchLabel = 11,
+    BoundPassed = 12,
+    SpanPassed = 13,
+    TooManyStates = 14,
+    BookTableShort = 15,
+    HorizonTooLong = 16,
+    PlanTableShort = 17,
+    NotOffered = 18,
+    NoSuchOutcome = 19,
+    LastSlot = 20,
+    Memory = 0,
 }
 
 // A refusal and the place of the word that it is about, counted from 0.
-#[derive(Clone, Copy, Debug)]
+#[derive(Clone, Copy, Debug, PartialEq, Eq)]
 pub struct Fault {
     pub refusal: Refusal,
     pub place: usize,
@@ -44,29 +49,21 @@ impl Refusal {
         ensures apart { Apart }
     {
         match self {
-            Refusal::CutOff => Some(1),
-            Refusal::WrongKind => Some(2),
-            Refusal::UnusedBit => Some(3),
-            Refusal::OutOfRange => Some(4),
-            Refusal::WrongEnd => Some(5),
-            Refusal::WrongTotal => Some(6),
-            Refusal::NotRising => Some(7),
-            Refusal::NoWait => Some(8),
-            Refusal::SwitchTwice => Some(9),
-            Refusal::TooManyItems => Some(10),
-            Refusal::NoSuchLabel => Some(11),
-            Refusal::BoundPassed => Some(12),
-            Refusal::SpanPassed => Some(13),
-            Refusal::TooManyStates => Some(14),
-            Refusal::BookTableShort => Some(15),
-            Refusal::HorizonTooLong => Some(16),
-            Refusal::PlanTableShort => Some(17),
-            Refusal::NotOffered => Some(18),
-            Refusal::NoSuchOutcome => Some(19),
-            Refusal::LastSlot => Some(20),
             Refusal::Memory => None,
+            numbered => Some(*numbered as u8),
         }
     }
+
+    // The refusal of the word at a place.
+    pub fn at(self, place: usize) -> Fault
+        ensures { result ≡ record { refusal = self; place = place } }
+    {
+        Fault {
+            refusal: self,
+            place,
+        }
+    }
+
     // What to tell a person.
     pub fn sentence(&self) -> &'static str
         ensures { result.now ≡ sentence_of self.now }
@@ -94,5 +91,34 @@ impl Refusal {
             Refusal::LastSlot => "slot 12 is the last, and nothing can be chosen in it",
             Refusal::Memory => "there is not enough memory",
         }
+    }
+}
+
+impl fmt::Display for Refusal {
+    fn fmt<W: fmt::Write>(&self, f: &mut fmt::Formatter<W>) -> fmt::Result {
+        f.write_str(self.sentence())
+    }
+}
+
+impl fmt::Display for Fault {
+    fn fmt<W: fmt::Write>(&self, f: &mut fmt::Formatter<W>) -> fmt::Result {
+        let Fault { refusal, place } = self;
+        match refusal.number() {
+            Some(number) => write!(f, "refused: {number} at word {place}: {refusal}"),
+            None => write!(f, "not read: {refusal}"),
+        }
+    }
+}
+
+impl Error for Refusal {}
+
+impl Error for Fault {}
+
+// Want of memory is a matter of no word.
+impl From<AllocError> for Fault {
+    ghost from_gives = { λ _ fault. fault ≡ record { refusal = Memory; place = 0 } };
+
+    fn from(_error: AllocError) -> Fault {
+        Refusal::Memory.at(0)
     }
 }

@@ -2,3 +2,4 @@ pub mod Reading
 pub mod Encoding
 pub mod Fields
 pub mod Tests
+pub mod Drafts

@@ -1,9 +1,9 @@
 -- A book format: what has been read so far, what one more word does to it, and what the whole comes to at the end word.
 -- Every book is read by it: the first word that is refused decides, and its place is counted from 0.
-use Rattle.std.specs.Prelude.{◌≡◌, ℕ, ◌+◌, ◌*◌, ◌%◌, ◌^◌, Bool, true, false, cond, ◌&&◌, List, [], ◌∷◌, ◌++◌, length, take, Ok, Err, Result, ◌==◌}
+use Rattle.std.specs.Prelude.{◌≡◌, ⊤, ℕ, ◌+◌, ◌-◌, ◌*◌, ◌%◌, ◌^◌, Bool, true, false, cond, ◌&&◌, List, [], ◌∷◌, ◌++◌, length, take, Ok, Err, Result, ◌==◌}
 use Rattle.refusal.specs.declared.Refusal.{Refusal}
-use Rattle.refusal.specs.declared.Refusal.TheVariants.{CutOff, WrongEnd}
-use Rattle.words.specs.Words.{word_of, end_word, bytes_of, Bytes}
+use Rattle.refusal.specs.declared.Refusal.TheVariants.{CutOff, WrongKind, UnusedBit, WrongEnd}
+use Rattle.words.specs.Words.{kind, field, word_of, end_word, bytes_of, Bytes}
 
 -- what a word does: it is refused, or read, or it is the end word
 pub data Step (S : Type 0) : Type 0 where
@@ -18,6 +18,10 @@ check b r next = cond b next (wrong r)
 -- the same of what one word alone says
 abbrev pub require : {X : Type 0} → Bool → Refusal → Result X Refusal → Result X Refusal
 require b r next = cond b next (Err r)
+
+-- a word of kind k, whose fields are its lowest n bits
+abbrev pub opened : ℕ → ℕ → ℕ → Result ⊤ Refusal
+opened k n w = require (kind w == k) WrongKind (require (field w n (28 - n) == 0) UnusedBit (Ok tt))
 
 -- go on with what the word says, where it is in order
 abbrev pub onto : {X S : Type 0} → Result X Refusal → (X → Step S) → Step S

@@ -1,3 +1,4 @@
 pub mod Words
 pub mod Format
 pub mod Tests
+pub mod Drafts

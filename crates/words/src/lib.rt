@@ -3,8 +3,14 @@
 #![tactic(auto)]
 
 ghost use Rattle.std.specs.Prelude.{◌≡◌, ℕ, ◌+◌, ◌*◌, ◌/◌, ◌%◌, ◌^◌, ◌<◌, ◌≤◌, ◌&&◌, length, drop, MatchOption, ◌==◌, nat_lt};
-ghost use Rattle.words.specs.Format.{is_nil};
+ghost use Rattle.words.specs.Format.{is_nil, opened};
 ghost use Rattle.words.specs.Words.{first_word, field as field_of};
+
+use refusal::Refusal;
+
+mod reader;
+
+pub use reader::{Draft, Turn, read};
 
 // The next word and what follows it; None where fewer than four bytes are left.
 pub fn next_word(bytes: &[u8]) -> Option<(u32, &[u8])>
@@ -13,8 +19,7 @@ pub fn next_word(bytes: &[u8]) -> Option<(u32, &[u8])>
     let [a, b, c, d, rest @ ..] = bytes else {
         return None;
     };
-    let word = *a as u32 + 256 * (*b as u32) + 65536 * (*c as u32) + 16777216 * (*d as u32);
-    Some((word, rest))
+    Some((u32::from_le_bytes([*a, *b, *c, *d]), rest))
 }
 
 // The bits of a word from bit `low` on, `width` of them.
@@ -44,4 +49,17 @@ pub fn is_last(word: u32, place: usize, rest: &[u8]) -> bool
     ensures { result ≡ (word % 2 ^ 28 == place && is_nil rest.now) }
 {
     word as usize % (1 << 28) == place && rest.is_empty()
+}
+
+// A word of this kind, whose fields are its lowest `width` bits: any other kind is refused, and then a bit above them.
+pub fn open(word: u32, kind: u32, width: u32) -> Result<(), Refusal>
+    ensures { result ≡ opened kind width word }
+{
+    if word >> 28 != kind {
+        return Err(Refusal::WrongKind);
+    }
+    if field(word, width, 28u32.saturating_sub(width)) != 0 {
+        return Err(Refusal::UnusedBit);
+    }
+    Ok(())
 }

@@ -1,0 +1,83 @@
+// What can be asked of a bounded list, and how an item is added.
+ghost use Rattle.bounded.specs.Listed.{listed};
+ghost use Rattle.std.specs.List.{slice_get};
+ghost use Rattle.std.specs.Prelude.{◌≡◌, ◌<◌, ◌≤◌, ◌↔◌, [], ◌∷◌, ◌++◌, length, take, IsOk, IfErr, OnOk, OnErr};
+
+use crate::Bounded;
+use std::default::Default;
+use std::ops::DerefSlice;
+
+impl<T: Copy + Default, const MOST: usize> Bounded<T, MOST> {
+    // No items.
+    pub fn new() -> Self
+        ensures { listed result ≡ [] }
+    {
+        Bounded {
+            places: [T::default(); MOST],
+            len: 0,
+        }
+    }
+
+    // The first `MOST` items of the slice.
+    pub fn from_slice(items: &[T]) -> Self
+        ensures { listed result ≡ take MOST items.now }
+    {
+        let mut all = Bounded::new();
+        for item in items {
+            if all.push(*item).is_err() {
+                return all;
+            }
+        }
+        all
+    }
+}
+
+impl<T: Copy, const MOST: usize> Bounded<T, MOST> {
+    // How many items there are.
+    pub fn len(&self) -> usize
+        ensures count { result ≡ length (listed self.now) }
+        ensures few { result ≤ MOST }
+    {
+        self.as_slice().len()
+    }
+
+    // Item `i`, counted from 0.
+    pub fn get(&self, i: usize) -> Option<T>
+        ensures { result ≡ slice_get (listed self.now) i }
+    {
+        self.as_slice().get(i).copied()
+    }
+
+    // The items in order.
+    pub fn as_slice(&self) -> &[T]
+        ensures items { result.now ≡ listed self.now }
+        ensures few { length result.now ≤ MOST }
+    {
+        &self.places[..self.len]
+    }
+
+    // Adds an item at the end, or hands it back where there is no room; then the list is as it was.
+    pub fn push(&mut self, item: T) -> Result<(), T>
+        ensures fits { IsOk result ↔ (length (listed self.old) < MOST) }
+        ensures added { OnOk result (listed self.new ≡ listed self.old ++ item ∷ []) }
+        ensures full { OnErr result (self.new ≡ self.old) }
+        ensures back { IfErr result (λ x. x ≡ item) }
+    {
+        if self.len == MOST {
+            return Err(item);
+        }
+        self.places[self.len] = item;
+        self.len += 1;
+        Ok(())
+    }
+}
+
+impl<T: Copy, const MOST: usize> DerefSlice for Bounded<T, MOST> {
+    type Elem = T;
+
+    ghost deref_gives = { λ b xs. (xs ≡ listed b) × (length xs ≤ MOST) };
+
+    fn deref(&self) -> &[T] {
+        self.as_slice()
+    }
+}
