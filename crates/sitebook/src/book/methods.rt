@@ -1,6 +1,6 @@
 // What can be asked of a site book.
 ghost use Rattle.std.specs.Prelude.{◌≡◌, ◌-◌, ◌≤◌, map, length, take, drop};
-ghost use Rattle.model.specs.Ways.{listed};
+ghost use Rattle.bounded.specs.Listed.{listed};
 ghost use Rattle.sitebook.specs.Contents.{contents};
 ghost use Rattle.sitebook.specs.Models.{mark_at, cell_at, outcome_of, origin_of, site_model};
 ghost use Rattle.sitebook.specs.Lawful.{site_lawful, site_ground, site_numbered};
@@ -56,9 +56,9 @@ fn gathered(moves: &[Move]) -> Outcomes
     requires { length moves.now ≤ 8 }
     ensures { listed result ≡ map outcome_of moves.now }
 {
-    let mut all = Outcomes::none();
+    let mut all = Outcomes::new();
     for way in moves {
-        all.push(Outcome {
+        let _ = all.push(Outcome {
             target: way.target as u64,
             weight: way.weight,
         });

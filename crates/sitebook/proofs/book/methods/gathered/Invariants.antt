@@ -1,5 +1,5 @@
 use Rattle.std.proofs.Common.{◌≡◌, map, take}
-use Rattle.model.specs.Ways.{listed}
+use Rattle.bounded.specs.Listed.{listed}
 use Rattle.sitebook.specs.Models.{outcome_of}
 use Rattle.sitebook.proofs.book.methods.gathered.Given as goal
 

@@ -1,20 +1,19 @@
-use Rattle.std.proofs.Common.{◌≡◌, ◌^◌, ◌<◌, [], ◌∷◌, ◌++◌, length, sym, ap, ◌∙◌, subst, arith, rules}
-use Rattle.codes.specs.Listed.{listed}
+use Rattle.std.proofs.Common.{◌≡◌, ◌^◌, ◌<◌, [], ◌∷◌, ◌++◌, length, refl, sym, ap, ◌∙◌, subst, arith, rules}
+use Rattle.register.specs.Listed.{listed}
 use Rattle.pen.specs.Laid.{Laid, counted}
-use Rattle.reach.proofs.Adding.{listed-length}
 use Rattle.sitelayout.specs.Layout.{site_words}
 use Rattle.words.specs.Words.{end_word}
 use Rattle.writeout.specs.Book.{book_of}
 use Rattle.writeout.specs.Tables.{words_in}
 use Rattle.writeout.proofs.Booking.{laid_book_is, counted_none, counted_some, written_none, written_book}
 use Rattle.writeout.proofs.Wording.{book_small}
-use Rattle.writeout.proofs.out.write_book.Goals as goal
+use Rattle.writeout.proofs.listing.Listing.write_book.Goals as goal
 
 pub returns-in_err-before : goal.returns-in_err-before
 returns-in_err-before g c =
-    let m = g.M.SiteModel.meaning c.args.m.now in
-    let codes = listed c.args.codes.now in
-    let laid = laid_book_is m codes c.len.result c.sizes.result.labels c.sizes.result.actions c.new-pen.result c.write_head.new.pen c.write_marks.new.pen c.write_cells.new.pen c.len.ensures.len c.sizes.ensures.labels c.sizes.ensures.actions c.new-pen.ensures.empty c.write_head.ensures c.write_marks.ensures c.write_cells.ensures in
+    let m = g.M.SiteModel.meaning c.args.self.now.model.now in
+    let codes = listed c.args.self.now.codes.now in
+    let laid = laid_book_is m codes (length codes) m.labels m.actions c.new-pen.result c.write_head.new.pen c.write_marks.new.pen c.write_cells.new.pen refl refl refl c.new-pen.ensures.empty c.write_head.ensures c.write_marks.ensures c.write_cells.ensures in
     let room = c.write_cells.ensures.room ∙ c.write_marks.ensures.room ∙ c.write_head.ensures.room ∙ c.new-pen.ensures.room in
     let none = ap (λ n. counted n (site_words (book_of m codes))) (sym room) ∙ sym (c.written.ensures (site_words (book_of m codes)) laid) ∙ c.in_err-before.was in
     record {
@@ -24,35 +23,36 @@ returns-in_err-before g c =
 
 pub overflow_cast-before : goal.overflow_cast-before
 overflow_cast-before g c =
-    let m = g.M.SiteModel.meaning c.args.m.now in
-    let codes = listed c.args.codes.now in
-    let law = g.met.M.SiteModel.lawful c.args.m.now in
-    let laid = laid_book_is m codes c.len.result c.sizes.result.labels c.sizes.result.actions c.new-pen.result c.write_head.new.pen c.write_marks.new.pen c.write_cells.new.pen c.len.ensures.len c.sizes.ensures.labels c.sizes.ensures.actions c.new-pen.ensures.empty c.write_head.ensures c.write_marks.ensures c.write_cells.ensures in
+    let m = g.M.SiteModel.meaning c.args.self.now.model.now in
+    let codes = listed c.args.self.now.codes.now in
+    let law = g.met.M.SiteModel.lawful c.args.self.now.model.now in
+    let laid = laid_book_is m codes (length codes) m.labels m.actions c.new-pen.result c.write_head.new.pen c.write_marks.new.pen c.write_cells.new.pen refl refl refl c.new-pen.ensures.empty c.write_head.ensures c.write_marks.ensures c.write_cells.ensures in
     let some = counted_some _ (site_words (book_of m codes)) c.in_ok-before.before (sym (c.written.ensures (site_words (book_of m codes)) laid) ∙ c.in_ok-before.was) in
-    let small = book_small m law codes (omega (arith, listed-length c.args.codes.now, c.args.codes.now.few)) in
+    let small = book_small m law codes c.args.self.now.few in
     let fits : c.in_ok-before.before < 2 ^ 28 = omega (arith, some.0, small) in
     omega arith
 
-pub overflow_add-before : goal.overflow_add-before
-overflow_add-before g c =
-    let m = g.M.SiteModel.meaning c.args.m.now in
-    let codes = listed c.args.codes.now in
-    let law = g.met.M.SiteModel.lawful c.args.m.now in
-    let laid = laid_book_is m codes c.len.result c.sizes.result.labels c.sizes.result.actions c.new-pen.result c.write_head.new.pen c.write_marks.new.pen c.write_cells.new.pen c.len.ensures.len c.sizes.ensures.labels c.sizes.ensures.actions c.new-pen.ensures.empty c.write_head.ensures c.write_marks.ensures c.write_cells.ensures in
+pub word-requires : goal.word-requires
+word-requires g c =
+    let m = g.M.SiteModel.meaning c.args.self.now.model.now in
+    let codes = listed c.args.self.now.codes.now in
+    let law = g.met.M.SiteModel.lawful c.args.self.now.model.now in
+    let laid = laid_book_is m codes (length codes) m.labels m.actions c.new-pen.result c.write_head.new.pen c.write_marks.new.pen c.write_cells.new.pen refl refl refl c.new-pen.ensures.empty c.write_head.ensures c.write_marks.ensures c.write_cells.ensures in
     let some = counted_some _ (site_words (book_of m codes)) c.in_ok-before.before (sym (c.written.ensures (site_words (book_of m codes)) laid) ∙ c.in_ok-before.was) in
-    let small = book_small m law codes (omega (arith, listed-length c.args.codes.now, c.args.codes.now.few)) in
+    let small = book_small m law codes c.args.self.now.few in
     let fits : c.in_ok-before.before < 2 ^ 28 = omega (arith, some.0, small) in
     omega arith
 
 pub returns : goal.returns
 returns g c =
-    let m = g.M.SiteModel.meaning c.args.m.now in
-    let codes = listed c.args.codes.now in
-    let laid = laid_book_is m codes c.len.result c.sizes.result.labels c.sizes.result.actions c.new-pen.result c.write_head.new.pen c.write_marks.new.pen c.write_cells.new.pen c.len.ensures.len c.sizes.ensures.labels c.sizes.ensures.actions c.new-pen.ensures.empty c.write_head.ensures c.write_marks.ensures c.write_cells.ensures in
+    let m = g.M.SiteModel.meaning c.args.self.now.model.now in
+    let codes = listed c.args.self.now.codes.now in
+    let laid = laid_book_is m codes (length codes) m.labels m.actions c.new-pen.result c.write_head.new.pen c.write_marks.new.pen c.write_cells.new.pen refl refl refl c.new-pen.ensures.empty c.write_head.ensures c.write_marks.ensures c.write_cells.ensures in
     let some = counted_some _ (site_words (book_of m codes)) c.in_ok-before.before (sym (c.written.ensures (site_words (book_of m codes)) laid) ∙ c.in_ok-before.was) in
     let room = c.put.ensures.room ∙ c.write_cells.ensures.room ∙ c.write_marks.ensures.room ∙ c.write_head.ensures.room ∙ c.new-pen.ensures.room in
     let all : Laid (site_words (book_of m codes) ++ (end_word (length (site_words (book_of m codes))) ∷ [])) c.put.new.self =
-    subst (λ n. Laid (site_words (book_of m codes) ++ (end_word n ∷ [])) c.put.new.self) some.0 (c.put.ensures.laid (site_words (book_of m codes)) laid) in
+    subst (λ n. Laid (site_words (book_of m codes) ++ (end_word n ∷ [])) c.put.new.self) some.0
+    (subst (λ w. Laid (site_words (book_of m codes) ++ (w ∷ [])) c.put.new.self) c.word.ensures (c.put.ensures.laid (site_words (book_of m codes)) laid)) in
     let count : c.written-2.result ≡ words_in (length c.args.bytes.now) (book_of m codes) = c.written-2.ensures (site_words (book_of m codes) ++ (end_word (length (site_words (book_of m codes))) ∷ [])) all ∙ ap (λ n. words_in n (book_of m codes)) room in
     record {
       count = count;
