@@ -3,7 +3,8 @@
 
 #![tactic(auto)]
 
-ghost use Rattle.std.specs.Prelude.{◌≡◌};
+ghost use Rattle.std.specs.Prelude.{◌≡◌, ◌<◌, ◌≤◌, length, MatchOption};
+ghost use Rattle.rulelayout.specs.Rule.{total};
 ghost use Rattle.rulelayout.specs.Layout.{head_of, masks_of};
 
 use refusal::Refusal;
@@ -81,4 +82,14 @@ pub fn read_masks(kind: u32, switches: u32, word: u32) -> Result<Masks, Refusal>
         second: second as u16,
         count: count as u8,
     })
+}
+
+// The weights of at most eight outcomes together.
+pub fn total_weight(effects: &[Effect]) -> Option<u32>
+    ensures { MatchOption result (8 < length effects.now) (λ sum. (length effects.now ≤ 8) × (sum ≡ total effects.now)) }
+{
+    if effects.len() > 8 {
+        return None;
+    }
+    Some(effects.iter().map(|effect| effect.weight as u32).sum())
 }
