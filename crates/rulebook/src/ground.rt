@@ -1,8 +1,8 @@
 // A rule book as a ground model: its states are the masks of its switches.
-ghost use Rattle.std.specs.Prelude.{◌≡◌, ◌^◌, ◌≤◌, true, false, length, MatchOption};
-ghost use Rattle.model.specs.Ways.{listed};
-ghost use Rattle.rulemodel.specs.Meaning.{act_at, met, offers, outcomes_from, rule_model};
-ghost use Rattle.rulebook.specs.Acts.{act_from, effects_of};
+ghost use Rattle.std.specs.Prelude.{◌≡◌, ◌^◌, ◌≤◌, true, false, MatchOption};
+ghost use Rattle.bounded.specs.Listed.{listed};
+ghost use Rattle.rulemodel.specs.Meaning.{act_at, offers, rule_model};
+ghost use Rattle.rulebook.specs.Acts.{act_from};
 ghost use Rattle.rulebook.specs.Contents.{contents};
 ghost use Rattle.rulemodel.proofs.RuleLaws.{rule_lawful, rule_ground, rule_numbered};
 
@@ -19,20 +19,6 @@ fn states(book: &RuleBook) -> u64
     1 << book.switches as u32
 }
 
-// How many actions there are.
-fn action_count(book: &RuleBook) -> u32
-    ensures count { result ≡ length (contents book.now).acts }
-{
-    book.len as u32
-}
-
-// Whether the action's needs are met in the state.
-fn meets(s: u64, action: &Action) -> bool
-    ensures { result ≡ met s (act_from action.now) }
-{
-    needs_met(s, action.on, action.off)
-}
-
 // The action, where it is offered in the state.
 fn offered_action(book: &RuleBook, s: u64, a: u32) -> Option<Action>
     ensures { MatchOption result (offers (contents book.now) s a ≡ false) (λ x. (offers (contents book.now) s a ≡ true) × (act_at (contents book.now) a ≡ act_from x)) }
@@ -40,12 +26,8 @@ fn offered_action(book: &RuleBook, s: u64, a: u32) -> Option<Action>
     if s >= states(book) {
         return None;
     }
-    let place = a as usize;
-    if place >= book.len {
-        return None;
-    }
-    let action = book.acts[place];
-    if meets(s, &action) {
+    let action = book.acts.get(a as usize)?;
+    if needs_met(s, action.on, action.off) {
         Some(action)
     } else {
         None
@@ -53,18 +35,12 @@ fn offered_action(book: &RuleBook, s: u64, a: u32) -> Option<Action>
 }
 
 // The action's outcomes in the state.
-fn gathered(s: u64, action: &Action) -> Outcomes
-    ensures { listed result ≡ outcomes_from s (effects_of action.now) }
-{
-    outcomes_of(s, &action.effects[0..action.len])
-}
-
 fn outcomes_at(book: &RuleBook, s: u64, a: u32) -> Outcomes
     ensures { listed result ≡ (rule_model (contents book.now)).outcomes s a }
 {
     match offered_action(book, s, a) {
-        Some(action) => gathered(s, &action),
-        None => Outcomes::none(),
+        Some(action) => outcomes_of(s, &action.effects),
+        None => Outcomes::new(),
     }
 }
 
@@ -104,7 +80,7 @@ impl SiteModel for RuleBook {
     fn sizes(&self) -> Sizes {
         Sizes {
             labels: self.switches as u32,
-            actions: action_count(self),
+            actions: self.acts.len() as u32,
             bound: 0,
             span: states(self),
         }

@@ -1,6 +1,8 @@
 -- How a rule book is written in words, and how it is read: head, each action in order with its outcomes right after it, and
 -- the end word. The tests of one word stand first, and the order of the words after them.
 use Rattle.std.specs.Prelude.{◌≡◌, ℕ, ◌+◌, ◌*◌, ◌^◌, ◌<◌, true, cond, List, [], ◌∷◌, ◌++◌, length, Ok, Err, Result, ◌==◌, bit_and, nat_lt}
+use Rattle.std.specs.Coded.{Unit-prop}
+use Rattle.std.proofs.Props.{props}
 use Rattle.refusal.specs.declared.Refusal.{Refusal}
 use Rattle.refusal.specs.declared.Refusal.TheVariants.{WrongKind, UnusedBit, OutOfRange, WrongTotal, NoWait, SwitchTwice}
 use Rattle.words.specs.Words.{field, kind}
@@ -112,3 +114,10 @@ Sound (inside h acts m es) =
     × (all (good_effect h.switches) es ≡ true)
     × (length es < m.count)
 Sound (whole h acts) = Begun h acts × (length acts ≡ h.actions)
+
+-- a draft is sound in one way only
+pub sound-prop : (d : Draft) → IsProp (Sound d)
+sound-prop blank = Unit-prop
+sound-prop (listing h acts) = Prim.hlevel props
+sound-prop (inside h acts m es) = Prim.hlevel props
+sound-prop (whole h acts) = Prim.hlevel props

@@ -12,7 +12,7 @@ use words::{field, fits, open};
 
 // The kinds of a rule book's words.
 #[derive(Clone, Copy, Debug, PartialEq, Eq)]
-pub enum RuleWord {
+pub enum Kind {
     Head = 6,
     Action = 7,
     Outcome = 8,
@@ -48,7 +48,7 @@ pub struct Masks {
 pub fn read_head(word: u32) -> Result<RuleHead, Refusal>
     ensures { result ≡ head_of word }
 {
-    open(word, RuleWord::Head as u32, 18)?;
+    open(word, Kind::Head as u32, 18)?;
     let switches = field(word, 0, 4);
     let actions = field(word, 4, 4);
     let start = field(word, 8, 10);
