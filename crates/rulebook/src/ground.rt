@@ -23,15 +23,8 @@ fn states(book: &RuleBook) -> u64
 fn offered_action(book: &RuleBook, s: u64, a: u32) -> Option<Action>
     ensures { MatchOption result (offers (contents book.now) s a ≡ false) (λ x. (offers (contents book.now) s a ≡ true) × (act_at (contents book.now) a ≡ act_from x)) }
 {
-    if s >= states(book) {
-        return None;
-    }
     let action = book.acts.get(a as usize)?;
-    if needs_met(s, action.on, action.off) {
-        Some(action)
-    } else {
-        None
-    }
+    (s < states(book) && needs_met(s, action.on, action.off)).then_some(action)
 }
 
 // The action's outcomes in the state.

@@ -12,10 +12,10 @@ use crate::book::RuleBook;
 use crate::stage::{Stage, Table};
 use bounded::Bounded;
 use refusal::{Fault, Refusal};
-use rulelayout::{Effect, Masks, Kind, read_head, read_masks, total_weight};
+use rulelayout::{Effect, Kind, Masks, read_head, read_masks, total_weight};
 use words::{Draft, Turn, open, read};
 
-// With these outcomes of the last action read.
+// With these outcomes of the last action read. While an action is due there is room for it.
 fn filled(mut table: Table, action: Masks, effects: Bounded<Effect, 8>) -> Result<Stage, Refusal>
     ensures { length (list_from table) < 8 → step_from result ≡ filled table.head (list_from table) action (listed effects) }
 {
@@ -37,7 +37,7 @@ fn filled(mut table: Table, action: Masks, effects: Bounded<Effect, 8>) -> Resul
     }
 }
 
-// What is due after one word more, or nothing at the end word.
+// What is due after one word more, or nothing at the end word. While an outcome is due there is room for it.
 #[tactic(auto, unfolding(rulelayout::specs::Layout::read_word))]
 fn next(stage: Stage, word: u32) -> Result<Option<Stage>, Refusal>
     requires { Sound (draft_from stage) }
@@ -55,11 +55,7 @@ fn next(stage: Stage, word: u32) -> Result<Option<Stage>, Refusal>
         }
         Stage::Inside(table, action, mut effects) => {
             let masks = read_masks(Kind::Outcome as u32, table.head.switches as u32, word)?;
-            let _ = effects.push(Effect {
-                set: masks.first,
-                clear: masks.second,
-                weight: masks.count,
-            });
+            let _ = effects.push(masks.into());
             Ok(Some(filled(table, action, effects)?))
         }
         Stage::Whole(_) => {
@@ -117,11 +113,13 @@ impl Draft for Reading {
     #[tactic(auto, unfolding(rulelayout::specs::Layout::whole_rule))]
     fn finish(self) -> Result<RuleBook, Refusal> {
         match self.stage {
-            Stage::Whole(Table { head, acts }) if acts.first().is_some_and(needless) => Ok(RuleBook {
-                switches: head.switches,
-                start: head.start,
-                acts,
-            }),
+            Stage::Whole(Table { head, acts }) if acts.first().is_some_and(needless) => Ok(
+                RuleBook {
+                    switches: head.switches,
+                    start: head.start,
+                    acts,
+                },
+            ),
             _ => Err(Refusal::NoWait),
         }
     }

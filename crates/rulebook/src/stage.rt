@@ -1,6 +1,4 @@
 // What has been read of a rule book.
-ghost use Rattle.rulebook.specs.Drafts.{draft_from};
-ghost use Rattle.rulelayout.specs.Layout.{Sound, sound-prop};
 
 use crate::action::Action;
 use bounded::Bounded;

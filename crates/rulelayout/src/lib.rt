@@ -5,7 +5,7 @@
 
 ghost use Rattle.std.specs.Prelude.{◌≡◌, ◌<◌, ◌≤◌, length, MatchOption};
 ghost use Rattle.rulelayout.specs.Rule.{total};
-ghost use Rattle.rulelayout.specs.Layout.{head_of, masks_of};
+ghost use Rattle.rulelayout.specs.Layout.{head_of, masks_of, effect_of};
 
 use refusal::Refusal;
 use words::{field, fits, open};
@@ -42,6 +42,19 @@ pub struct Masks {
     pub first: u16,
     pub second: u16,
     pub count: u8,
+}
+
+// An outcome's word, as the outcome that it says.
+impl From<Masks> for Effect {
+    ghost from_gives = { λ masks effect. effect ≡ effect_of masks };
+
+    fn from(masks: Masks) -> Effect {
+        Effect {
+            set: masks.first,
+            clear: masks.second,
+            weight: masks.count,
+        }
+    }
 }
 
 // The head of a book, or what is wrong with its word.
