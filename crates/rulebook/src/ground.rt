@@ -11,29 +11,21 @@ use crate::book::RuleBook;
 use model::{GroundModel, Numbered, Outcomes, SiteModel, Sizes};
 use rulemodel::{needs_met, outcomes_of};
 
-// How many states there are.
-fn states(book: &RuleBook) -> u64
-    ensures count { result ≡ 2 ^ book.now.switches }
-    ensures small { result ≤ 1024 }
-{
-    1 << book.switches as u32
-}
+impl RuleBook {
+    // How many states there are.
+    fn states(&self) -> u64
+        ensures count { result ≡ 2 ^ self.now.switches }
+        ensures small { result ≤ 1024 }
+    {
+        1 << self.switches as u32
+    }
 
-// The action, where it is offered in the state.
-fn offered_action(book: &RuleBook, s: u64, a: u32) -> Option<Action>
-    ensures { MatchOption result (offers (contents book.now) s a ≡ false) (λ x. (offers (contents book.now) s a ≡ true) × (act_at (contents book.now) a ≡ act_from x)) }
-{
-    let action = book.acts.get(a as usize)?;
-    (s < states(book) && needs_met(s, action.on, action.off)).then_some(action)
-}
-
-// The action's outcomes in the state.
-fn outcomes_at(book: &RuleBook, s: u64, a: u32) -> Outcomes
-    ensures { listed result ≡ (rule_model (contents book.now)).outcomes s a }
-{
-    match offered_action(book, s, a) {
-        Some(action) => outcomes_of(s, &action.effects),
-        None => Outcomes::new(),
+    // The action, where it is offered in the state.
+    fn offered(&self, s: u64, a: u32) -> Option<Action>
+        ensures { MatchOption result (offers (contents self.now) s a ≡ false) (λ x. (offers (contents self.now) s a ≡ true) × (act_at (contents self.now) a ≡ act_from x)) }
+    {
+        let action = self.acts.get(a as usize)?;
+        (s < self.states() && needs_met(s, action.on, action.off)).then_some(action)
     }
 }
 
@@ -47,11 +39,11 @@ impl SiteModel for RuleBook {
     }
 
     fn is_state(&self, s: u64) -> bool {
-        s < states(self)
+        s < self.states()
     }
 
     fn mask(&self, s: u64) -> u32 {
-        if s < states(self) { s as u32 } else { 0 }
+        if s < self.states() { s as u32 } else { 0 }
     }
 
     fn reward(&self, _s: u64) -> i32 {
@@ -59,15 +51,18 @@ impl SiteModel for RuleBook {
     }
 
     fn ground(&self, s: u64) -> u64 {
-        if s < states(self) { s } else { 0 }
+        if s < self.states() { s } else { 0 }
     }
 
     fn offers(&self, s: u64, a: u32) -> bool {
-        offered_action(self, s, a).is_some()
+        self.offered(s, a).is_some()
     }
 
     fn outcomes(&self, s: u64, a: u32) -> Outcomes {
-        outcomes_at(self, s, a)
+        match self.offered(s, a) {
+            Some(action) => outcomes_of(s, &action.effects),
+            None => Outcomes::new(),
+        }
     }
 
     fn sizes(&self) -> Sizes {
@@ -75,7 +70,7 @@ impl SiteModel for RuleBook {
             labels: self.switches as u32,
             actions: self.acts.len() as u32,
             bound: 0,
-            span: states(self),
+            span: self.states(),
         }
     }
 }
@@ -88,6 +83,6 @@ impl Numbered for RuleBook {
     ghost numbered = { λ book. rule_numbered (contents book) book.sound };
 
     fn count(&self) -> usize {
-        states(self) as usize
+        self.states() as usize
     }
 }

@@ -5,12 +5,12 @@ use Rattle.rulemodel.specs.Meaning.{is_switch_mask, met}
 use Rattle.rulebook.specs.Acts.{act_from}
 use Rattle.rulebook.specs.Contents.{contents}
 use Rattle.rulebook.proofs.Offers.{offered_told}
-use Rattle.rulebook.proofs.ground.offered_action.Goals as goal
-use Rattle.rulebook.proofs.ground.offered_action.Goals.{then-s-states, else-s-states}
+use Rattle.rulebook.proofs.book.RuleBook.offered.Goals as goal
+use Rattle.rulebook.proofs.book.RuleBook.offered.Goals.{then-s-states, else-s-states}
 
 pub returns : goal.returns
 returns c =
-    let book = c.args.book.now in
+    let book = c.args.self.now in
     let test : c.if-s-states.then_some ≡ (is_switch_mask (contents book) c.args.s && met c.args.s (act_from c.in_ok-action.action)) =
     elim c.if-s-states.branch [
       | then-s-states w ↦ grind (arith, common_steps)
