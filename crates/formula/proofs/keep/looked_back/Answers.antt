@@ -1,4 +1,4 @@
-use Rattle.std.proofs.Common.{false, refl, rules, arith}
+use Rattle.std.proofs.Common.{false, refl, rules}
 use Rattle.std.proofs.lemmas.List.{get_or-replicate}
 use Rattle.formula.proofs.Passes.{back_more}
 use Rattle.formula.proofs.keep.looked_back.Goals as goal
