@@ -1,21 +1,18 @@
 -- The two tables tell what the memory recalls: entering item after item, and past the last node nothing is remembered.
-use Rattle.std.proofs.Common.{◌≡◌, ℕ, suc, ◌+◌, ◌/◌, ◌%◌, ◌^◌, ◌<◌, ◌≤◌, Bool, true, false, cond, ◌&&◌, ◌||◌, eqb, List, [], ◌∷◌, ◌++◌, length, get_or, take, drop, set, replicate, sym, refl, ap, ◌∙◌, inl, inr, lt_of_lt_of_le, arith, pow_mono}
-use native.Mathlib.Nat.{div-eq_of_lt}
+use Rattle.std.proofs.Common.{◌≡◌, ℕ, suc, ◌+◌, ◌/◌, ◌%◌, ◌<◌, ◌≤◌, Bool, true, false, cond, ◌&&◌, ◌||◌, eqb, List, [], ◌∷◌, ◌++◌, map, length, get_or, take, drop, set, sym, refl, ap, ◌∙◌, subst, inl, inr, arith}
 use Rattle.std.specs.List.{ContainsAt as Has}
-use Rattle.std.proofs.lemmas.List.{at_drop_more, at_drop_all, get_or-set_same, get_or-set_other, get_or-replicate, get_or_past, take_more_set}
+use Rattle.std.proofs.lemmas.List.{at_drop_more, at_drop_all, get_or-set_same, get_or-set_other, get_or_past, take_more_set}
 use Rattle.std.proofs.lemmas.Bool.{cases_Bool, cases_eq, cases_lt, both_ways, or_cases, and_parts, eqb-true, eq-eqb, ne_eqb}
 use Rattle.formula.specs.declared.Item.{Item}
 use Rattle.formula.specs.declared.Item.TheVariants.{Held, Failed}
 use Rattle.formula.specs.declared.Node.{Node}
-use Rattle.formula.specs.Items.{kept_items}
+use Rattle.formula.specs.Resting.{resting}
 use Rattle.formula.proofs.Chosen.{selected}
-use Rattle.truth.specs.Truth.{labelled}
+use Rattle.wishbook.specs.Book.{Book}
+use Rattle.layer.specs.declared.recalled.Recalled.{Recalled}
 use Rattle.layer.specs.Judging.{Remembered, held_in, failed_in, recalled, verdict, verdicts_from}
-use Rattle.layer.specs.Tables.{held_with, failed_with, tabled}
-
--- a mask of 32 bits has no label past them
-pub label_past : (mask p : ℕ) → mask < 2 ^ 32 → 32 ≤ p → labelled mask p ≡ false
-label_past mask p h l = ap (λ n. eqb (n % 2) 1) (div-eq_of_lt (lt_of_lt_of_le h (pow_mono l)))
+use Rattle.layer.specs.Records.{SoundBook}
+use Rattle.layer.specs.Tables.{held_with, failed_with, told}
 
 -- one place of a table, after a bit has been entered
 set_or : (bit : Bool) (table : List Bool) (k i : ℕ) (x : Bool) → i < length table → (get_or (cond bit (set table k true) table) i false || x) ≡ (get_or table i false || ((eqb i k && bit) || x))
@@ -98,41 +95,26 @@ failed_has (Failed k ∷ items) m i e =
     ]
 failed_has (Held k ∷ items) m i e = later (Held k) items (Failed i) (failed_has items (m / 2) i e)
 
-module _ (nodes : List Node) (used : List Bool) (m : ℕ) (few : length nodes ≤ 128) where
-  abbrev items : List Item
-  items = kept_items nodes used
+-- a sound book of at most 128 nodes
+module _ (b : Book) (ok : SoundBook b) (few : length b.nodes ≤ 128) (m : ℕ) where
+  held_below : (i : ℕ) → Has b.items (Held i) → i < 128
+  held_below i has = omega (arith, ((selected b.nodes (resting b.nodes (map (λ w. w.node) b.wishes))).held_only i (subst (λ xs. Has xs (Held i)) ok.remembers has)).0)
 
-  held_past : (i : ℕ) → 128 ≤ i → held_in items m i ≡ false
-  held_past i past =
-      elim (cases_Bool (held_in items m i)) [
-        | inl t ↦ absurd (omega (arith, ((selected nodes used).held_only i (held_has items m i t)).0))
-        | inr f ↦ f
-      ]
+  failed_below : (i : ℕ) → Has b.items (Failed i) → i < 128
+  failed_below i has = omega (arith, ((selected b.nodes (resting b.nodes (map (λ w. w.node) b.wishes))).failed_only i (subst (λ xs. Has xs (Failed i)) ok.remembers has)).0)
 
-  failed_past : (i : ℕ) → 128 ≤ i → failed_in items m i ≡ false
-  failed_past i past =
-      elim (cases_Bool (failed_in items m i)) [
-        | inl t ↦ absurd (omega (arith, ((selected nodes used).failed_only i (failed_has items m i t)).0))
-        | inr f ↦ f
-      ]
+  held_past : (i : ℕ) → 128 ≤ i → held_in b.items m i ≡ false
+  held_past i past = elim (cases_Bool (held_in b.items m i)) [ inl t ↦ absurd (omega (arith, held_below i (held_has b.items m i t))) | inr f ↦ f ]
 
-  -- tables of 128 that were empty before tell all that is recalled
-  pub tables_recall : (held failed : List Bool) → length held ≡ 128 → length failed ≡ 128
-      → ((i : ℕ) → i < 128 → get_or held i false ≡ (get_or (replicate 128 false) i false || held_in items m i))
-      → ((i : ℕ) → i < 128 → get_or failed i false ≡ (get_or (replicate 128 false) i false || failed_in items m i))
-      → tabled held failed ≡ recalled items m
-  tables_recall held failed hl fl hs fs = λ k. record { held = λ i. held_is i k; failed = λ i. failed_is i k }
+  failed_past : (i : ℕ) → 128 ≤ i → failed_in b.items m i ≡ false
+  failed_past i past = elim (cases_Bool (failed_in b.items m i)) [ inl t ↦ absurd (omega (arith, failed_below i (failed_has b.items m i t))) | inr f ↦ f ]
+
+  -- tables that tell what is recalled below 128 tell all of it
+  pub tables_recall : (r : Recalled) → ((i : ℕ) → i < 128 → (told r).held i ≡ held_in b.items m i) → ((i : ℕ) → i < 128 → (told r).failed i ≡ failed_in b.items m i) → told r ≡ recalled b.items m
+  tables_recall r hs fs = λ k. record { held = λ i. held_is i k; failed = λ i. failed_is i k }
     where
-      held_is : (i : ℕ) → get_or held i false ≡ held_in items m i
-      held_is i =
-          elim (cases_lt i 128) [
-            | inl l ↦ hs i l ∙ ap (λ t. t || held_in items m i) (get_or-replicate 128 i false false l)
-            | inr past ↦ get_or_past held i false (omega arith) ∙ sym (held_past i past)
-          ]
+      held_is : (i : ℕ) → get_or r.held i false ≡ held_in b.items m i
+      held_is i = elim (cases_lt i 128) [ inl l ↦ hs i l | inr past ↦ get_or_past r.held i false (omega (arith, r.sizes.0)) ∙ sym (held_past i past) ]
 
-      failed_is : (i : ℕ) → get_or failed i false ≡ failed_in items m i
-      failed_is i =
-          elim (cases_lt i 128) [
-            | inl l ↦ fs i l ∙ ap (λ t. t || failed_in items m i) (get_or-replicate 128 i false false l)
-            | inr past ↦ get_or_past failed i false (omega arith) ∙ sym (failed_past i past)
-          ]
+      failed_is : (i : ℕ) → get_or r.failed i false ≡ failed_in b.items m i
+      failed_is i = elim (cases_lt i 128) [ inl l ↦ fs i l | inr past ↦ get_or_past r.failed i false (omega (arith, r.sizes.1)) ∙ sym (failed_past i past) ]

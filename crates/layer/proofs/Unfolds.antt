@@ -18,10 +18,10 @@ use Rattle.wishbook.specs.Book.{Book, items_over}
 use Rattle.wishlayout.specs.declared.Wish.{Wish}
 use Rattle.wishlayout.specs.Wishes.{good_wish}
 use Rattle.words.specs.Tests.{all}
-use Rattle.layer.specs.Judging.{Remembered, recalled, verdict, verdicts_from, verdicts, bit, memory_of, bits_of_wishes, amount, earned}
+use Rattle.layer.specs.Judging.{Remembered, recalled, verdict, verdicts_from, verdicts, bit, item_held, memory_of, bits_of_wishes, amount, earned}
 use Rattle.layer.specs.Layering.{under, memory, is_layer_state, judged, lifted, layered}
 use Rattle.layer.specs.Records.{trace_of, end_of, truths, memory_at, code_over, mask_over, reward_over}
-use Rattle.layer.specs.Sizes.{memory_below}
+use Rattle.layer.specs.Sizes.{bits_below}
 use Rattle.layer.proofs.Verdicts.{Right, verdicts_right, memory_at_state, recalls_at, memory_next, told_at}
 
 some_history : (g : Model) (h : List ℕ) → History g h → 1 ≤ length h
@@ -91,7 +91,7 @@ module _ (g m : Model) (code mask : List ℕ → ℕ) (reward : List ℕ → ℤ
 
     mem_items : (k : ℕ) → memory_at book τ k < 2 ^ length (items_over ns ws)
     mem_items zero = pow_pos (length (items_over ns ws))
-    mem_items (suc k) = memory_below (items_over ns ws) (truths ns τ k)
+    mem_items (suc k) = bits_below (item_held (truths ns τ k)) (items_over ns ws)
 
     mem_low : mem < 65536
     mem_low = let top : 2 ^ length (items_over ns ws) ≤ 2 ^ 16 = pow_mono few in omega (arith, mem_items n, top)

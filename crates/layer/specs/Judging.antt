@@ -51,16 +51,27 @@ abbrev pub bit : Bool → ℕ
 bit true = 1
 bit false = 0
 
+-- a number from bits, one for each x: the first is the lowest
+abbrev pub bits_of : {X : Type 0} → (X → Bool) → List X → ℕ
+bits_of holds [] = 0
+bits_of holds (x ∷ xs) = bit (holds x) + 2 * bits_of holds xs
+
+-- what is remembered of an item, from the verdicts
+abbrev pub item_held : List Bool → Item → Bool
+item_held vs (Held i) = slice_index_or vs i false
+item_held vs (Failed i) = not (slice_index_or vs i false)
+
 -- what is remembered of the verdicts: item 0 is the lowest bit
 abbrev pub memory_of : List Item → List Bool → ℕ
-memory_of [] vs = 0
-memory_of (Held i ∷ items) vs = bit (slice_index_or vs i false) + 2 * memory_of items vs
-memory_of (Failed i ∷ items) vs = bit (not (slice_index_or vs i false)) + 2 * memory_of items vs
+memory_of items vs = bits_of (item_held vs) items
+
+-- whether the node of a wish holds
+abbrev pub wish_held : List Bool → Wish → Bool
+wish_held vs w = slice_index_or vs w.node false
 
 -- one bit for each wish, in book order
 abbrev pub bits_of_wishes : List Wish → List Bool → ℕ
-bits_of_wishes [] vs = 0
-bits_of_wishes (w ∷ ws) vs = bit (slice_index_or vs w.node false) + 2 * bits_of_wishes ws vs
+bits_of_wishes ws vs = bits_of (wish_held vs) ws
 
 -- the amount of a wish
 abbrev pub amount : Wish → ℤ
@@ -69,4 +80,4 @@ amount w = pos w.raised -ℤ pos 255
 -- the amounts of the wishes that hold, after what was earned before
 abbrev pub earned : ℤ → List Wish → List Bool → ℤ
 earned sum [] vs = sum
-earned sum (w ∷ ws) vs = earned (cond (slice_index_or vs w.node false) (sum +ℤ amount w) sum) ws vs
+earned sum (w ∷ ws) vs = earned (cond (wish_held vs w) (sum +ℤ amount w) sum) ws vs

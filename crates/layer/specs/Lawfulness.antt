@@ -11,9 +11,10 @@ use Rattle.wishbook.specs.declared.book.WishBook.{WishBook}
 use Rattle.wishbook.specs.Book.{Book}
 use Rattle.wishbook.specs.Contents.{contents}
 use Rattle.words.specs.Tests.{all}
-use Rattle.layer.specs.Judging.{memory_of, bits_of_wishes, earned}
+use Rattle.layer.specs.Books.{kept}
+use Rattle.layer.specs.Judging.{item_held, memory_of, wish_held, bits_of_wishes, earned}
 use Rattle.layer.specs.Layering.{names_label_below, amounts, has_labels, bound_fits, span_fits, fits, under, memory, is_layer_state, judged, lifted, layered, over}
-use Rattle.layer.specs.Sizes.{take_few, memory_below, memory_small, wish_bits_below, mask_grows, earned_within}
+use Rattle.layer.specs.Sizes.{bits_below, bits_small, mask_grows, earned_within}
 
 -- what a book that fits leaves room for
 pub record Room (m : Model) (b : Book) : Type 0 where
@@ -96,7 +97,7 @@ module _ (m : Model) (b : Book) (law : Lawful m) (few : length b.items ≤ 16) (
   targets_law s a j d h =
       let o = get_or (m.outcomes (under s) a) j nowhere in
       ap (λ (x : Outcome). is_layer_state m b x.target) (outs_at s a j d h)
-      ∙ packed_state o.target (memory_of b.items (judged m b s)) (law.targets (under s) a j nowhere (outs_within s a j h)) (memory_below b.items (judged m b s)) (memory_small b.items (judged m b s) few)
+      ∙ packed_state o.target (memory_of b.items (judged m b s)) (law.targets (under s) a j nowhere (outs_within s a j h)) (bits_below (item_held (judged m b s)) b.items) (bits_small (item_held (judged m b s)) b.items few)
 
   apart_law : (s a j k : ℕ) (d : Outcome) → j < length ((layered m b).outcomes s a) → k < length ((layered m b).outcomes s a) → (get_or ((layered m b).outcomes s a) j d).target ≡ (get_or ((layered m b).outcomes s a) k d).target → j ≡ k
   apart_law s a j k d h g e =
@@ -128,7 +129,7 @@ module _ (m : Model) (b : Book) (law : Lawful m) (few : length b.items ≤ 16) (
   labelled_law : (s : ℕ) → (layered m b).mask s < 2 ^ (m.labels + length b.wishes)
   labelled_law s =
       cond_both (is_layer_state m b s) (m.mask (under s) + 2 ^ m.labels * bits_of_wishes b.wishes (judged m b s)) 0 (λ n. n < 2 ^ (m.labels + length b.wishes))
-      (λ t. mask_grows m.labels (length b.wishes) (m.mask (under s)) (bits_of_wishes b.wishes (judged m b s)) (law.labelled (under s)) (wish_bits_below b.wishes (judged m b s)))
+      (λ t. mask_grows m.labels (length b.wishes) (m.mask (under s)) (bits_of_wishes b.wishes (judged m b s)) (law.labelled (under s)) (bits_below (wish_held (judged m b s)) b.wishes))
       (λ f. pow_pos (m.labels + length b.wishes))
 
   bounded_law : (s : ℕ) → unsigned_abs ((layered m b).reward s) ≤ m.bound + amounts b.wishes
@@ -170,7 +171,7 @@ over_lawful m (Some b) law few = cond_both (fits m b) (layered m b) m Lawful (λ
 -- a wish book has at most 16 items
 pub layer_lawful : (m : Model) (o : Option WishBook) → Lawful m → Lawful (over m (option_map contents o))
 layer_lawful m None law = law
-layer_lawful m (Some w) law = over_lawful m (Some (contents w)) law (take_few w.kept w.items w.few.1)
+layer_lawful m (Some w) law = over_lawful m (Some (contents w)) law (kept w).few
 
 -- what the code of a layer leans on, where the book fits
 module _ (m : Model) (b : Book) (law : Lawful m) (fit : fits m b ≡ true) where
@@ -184,7 +185,7 @@ module _ (m : Model) (b : Book) (law : Lawful m) (fit : fits m b ≡ true) where
   label_room = law.narrow
 
   pub mask_room : (s : ℕ) (vs : List Bool) → m.mask s + 2 ^ m.labels * bits_of_wishes b.wishes vs < 2 ^ 24
-  mask_room s vs = lt_of_lt_of_le (mask_grows m.labels (length b.wishes) (m.mask s) (bits_of_wishes b.wishes vs) (law.labelled s) (wish_bits_below b.wishes vs)) (pow_mono (room m b fit).labels)
+  mask_room s vs = lt_of_lt_of_le (mask_grows m.labels (length b.wishes) (m.mask s) (bits_of_wishes b.wishes vs) (law.labelled s) (bits_below (wish_held vs) b.wishes)) (pow_mono (room m b fit).labels)
 
   pub reward_room : (s : ℕ) → unsigned_abs (m.reward s) ≤ 2000
   reward_room s = omega (arith, law.bounded s, law.modest)
