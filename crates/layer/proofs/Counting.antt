@@ -1,10 +1,9 @@
 -- One bit more, from the last x to the first; and one wish more, from the first to the last.
 use Rattle.std.proofs.Common.{◌≡◌, ℕ, ◌+◌, ◌*◌, ◌^◌, ◌<◌, ◌≤◌, Bool, true, false, cond, List, [], ◌∷◌, ◌++◌, length, get_or, drop, ℤ, pos, negsuc, ◌+ℤ◌, nat_abs, sym, refl, ap, ◌∙◌, subst, arith, w32, SFits, to_z, of_z}
-use Rattle.std.proofs.lemmas.List.{at_drop_more, at_drop_all}
+use Rattle.std.proofs.lemmas.List.{at_drop_more}
 use Rattle.std.proofs.lemmas.Int.{to_z-of_z}
 use Rattle.wishlayout.specs.declared.Wish.{Wish}
 use Rattle.layer.specs.Judging.{bit, bits_of, wish_held, amount, earned}
-use Rattle.layer.specs.Layering.{amounts}
 use Rattle.layer.specs.Sizes.{abs_add}
 
 -- a number from bits, with one for each x below those that there are
@@ -37,9 +36,6 @@ sum_is t a p q =
 abbrev pub Earning : ℤ → ℤ → List Wish → List Bool → ℕ → Type 0
 Earning sum t ws vs i = (earned t (drop i ws) vs ≡ earned sum ws vs) × (nat_abs t ≤ 2000 + 65536 * i)
 
-pub earning_fits : (sum t a : ℤ) (ws : List Wish) (vs : List Bool) (i : ℕ) → Earning sum t ws vs i → i < length ws → length ws ≤ 16 → nat_abs a < 65536 → SFits w32 (t +ℤ to_z w32 (of_z w32 a))
-earning_fits sum t a ws vs i (rest, bound) here few small = sum_fits t a (omega arith) small
-
 -- the next wish, where it holds and where it does not
 pub earning_more : (sum t u a : ℤ) (ws : List Wish) (vs : List Bool) (i : ℕ) (d : Wish) → Earning sum t ws vs i → i < length ws → length ws ≤ 16 → nat_abs a < 65536 → a ≡ amount (get_or ws i d) → u ≡ to_z w32 (of_z w32 (t +ℤ to_z w32 (of_z w32 a))) → wish_held vs (get_or ws i d) ≡ true → Earning sum u ws vs (i + 1)
 earning_more sum t u a ws vs i d (rest, bound) here few small is sum-in holds =
@@ -59,13 +55,3 @@ earning_past sum t u ws vs i d (rest, bound) here same fails = (
       ∙ rest,
   omega (arith, ap nat_abs same),
 )
-
-pub earned_end : (sum : ℤ) (ws : List Wish) (vs : List Bool) (i : ℕ) → length ws ≤ i → sum ≡ earned sum (drop i ws) vs
-earned_end sum ws vs i past = sym (at_drop_all (λ l. earned sum l vs) ws i past)
-
--- the next amount
-pub amounts_more : (ws : List Wish) (total i : ℕ) (d : Wish) → i < length ws → (total + nat_abs (amount (get_or ws i d))) + amounts (drop (i + 1) ws) ≡ total + amounts (drop i ws)
-amounts_more ws total i d here = let more : amounts (drop i ws) ≡ nat_abs (amount (get_or ws i d)) + amounts (drop (i + 1) ws) = at_drop_more amounts ws i d here in omega arith
-
-pub amounts_end : (ws : List Wish) (total i : ℕ) → length ws ≤ i → total ≡ total + amounts (drop i ws)
-amounts_end ws total i past = let none : amounts (drop i ws) ≡ 0 = at_drop_all amounts ws i past in omega arith

@@ -1,77 +1,17 @@
 -- The two tables tell what the memory recalls: entering item after item, and past the last node nothing is remembered.
-use Rattle.std.proofs.Common.{◌≡◌, ℕ, suc, ◌+◌, ◌/◌, ◌%◌, ◌<◌, ◌≤◌, Bool, true, false, cond, ◌&&◌, ◌||◌, eqb, List, [], ◌∷◌, ◌++◌, map, length, get_or, take, drop, set, sym, refl, ap, ◌∙◌, subst, inl, inr, arith}
+use Rattle.std.proofs.Common.{◌≡◌, ℕ, suc, ◌/◌, ◌%◌, ◌<◌, ◌≤◌, true, false, ◌&&◌, eqb, List, [], ◌∷◌, map, length, get_or, sym, refl, ap, ◌∙◌, subst, inl, inr, arith}
 use Rattle.std.specs.List.{ContainsAt as Has}
-use Rattle.std.proofs.lemmas.List.{at_drop_more, at_drop_all, get_or-set_same, get_or-set_other, get_or_past, take_more_set}
-use Rattle.std.proofs.lemmas.Bool.{cases_Bool, cases_eq, cases_lt, both_ways, or_cases, and_parts, eqb-true, eq-eqb, ne_eqb}
+use Rattle.std.proofs.lemmas.List.{get_or_past}
+use Rattle.std.proofs.lemmas.Bool.{cases_Bool, cases_lt, both_ways, or_cases, and_parts, eqb-true}
 use Rattle.formula.specs.declared.Item.{Item}
 use Rattle.formula.specs.declared.Item.TheVariants.{Held, Failed}
-use Rattle.formula.specs.declared.Node.{Node}
 use Rattle.formula.specs.Resting.{resting}
 use Rattle.formula.proofs.Chosen.{selected}
 use Rattle.wishbook.specs.Book.{Book}
 use Rattle.layer.specs.declared.recalled.Recalled.{Recalled}
-use Rattle.layer.specs.Judging.{Remembered, held_in, failed_in, recalled, verdict, verdicts_from}
+use Rattle.layer.specs.Judging.{held_in, failed_in, recalled}
 use Rattle.layer.specs.Records.{SoundBook}
-use Rattle.layer.specs.Tables.{held_with, failed_with, told}
-
--- one place of a table, after a bit has been entered
-set_or : (bit : Bool) (table : List Bool) (k i : ℕ) (x : Bool) → i < length table → (get_or (cond bit (set table k true) table) i false || x) ≡ (get_or table i false || ((eqb i k && bit) || x))
-set_or true table k i x l =
-    elim (cases_eq i k) [
-      | inl e ↦
-          ap (λ n. get_or (set table n true) i false || x) (sym e)
-          ∙ ap (λ t. t || x) (get_or-set_same table i true false l)
-          ∙ sym (ap (λ t. get_or table i false || ((t && true) || x)) (eq-eqb i k e) ∙ or_true (get_or table i false))
-      | inr n ↦
-          ap (λ t. t || x) (get_or-set_other table k i true false n)
-          ∙ sym (ap (λ t. get_or table i false || ((t && true) || x)) (ne_eqb i k n))
-    ]
-  where
-    or_true : (t : Bool) → (t || true) ≡ true
-    or_true true = refl
-    or_true false = refl
-set_or false table k i x l = sym (ap (λ t. get_or table i false || (t || x)) (and_none (eqb i k)))
-  where
-    and_none : (t : Bool) → (t && false) ≡ false
-    and_none true = refl
-    and_none false = refl
-
-held_one : (item : Item) (rest : List Item) (left : ℕ) (table : List Bool) (i : ℕ) → i < length table → (get_or (held_with item (eqb (left % 2) 1) table) i false || held_in rest (left / 2) i) ≡ (get_or table i false || held_in (item ∷ rest) left i)
-held_one (Held k) rest left table i l = set_or (eqb (left % 2) 1) table k i (held_in rest (left / 2) i) l
-held_one (Failed k) rest left table i l = refl
-
-failed_one : (item : Item) (rest : List Item) (left : ℕ) (table : List Bool) (i : ℕ) → i < length table → (get_or (failed_with item (eqb (left % 2) 1) table) i false || failed_in rest (left / 2) i) ≡ (get_or table i false || failed_in (item ∷ rest) left i)
-failed_one (Held k) rest left table i l = refl
-failed_one (Failed k) rest left table i l = set_or (eqb (left % 2) 1) table k i (failed_in rest (left / 2) i) l
-
--- one item more
-pub held_more : (items : List Item) (n left : ℕ) (table : List Bool) (i : ℕ) (d : Item) → n < length items → i < length table → (get_or (held_with (get_or items n d) (eqb (left % 2) 1) table) i false || held_in (drop (n + 1) items) (left / 2) i) ≡ (get_or table i false || held_in (drop n items) left i)
-held_more items n left table i d h l = held_one (get_or items n d) (drop (n + 1) items) left table i l ∙ sym (ap (λ t. get_or table i false || t) (at_drop_more (λ xs. held_in xs left i) items n d h))
-
-pub failed_more : (items : List Item) (n left : ℕ) (table : List Bool) (i : ℕ) (d : Item) → n < length items → i < length table → (get_or (failed_with (get_or items n d) (eqb (left % 2) 1) table) i false || failed_in (drop (n + 1) items) (left / 2) i) ≡ (get_or table i false || failed_in (drop n items) left i)
-failed_more items n left table i d h l = failed_one (get_or items n d) (drop (n + 1) items) left table i l ∙ sym (ap (λ t. get_or table i false || t) (at_drop_more (λ xs. failed_in xs left i) items n d h))
-
-or_none : (t : Bool) → (t || false) ≡ t
-or_none true = refl
-or_none false = refl
-
--- all items
-pub held_end : (items : List Item) (n left : ℕ) (table : List Bool) (i : ℕ) → length items ≤ n → get_or table i false ≡ (get_or table i false || held_in (drop n items) left i)
-held_end items n left table i h = sym (ap (λ t. get_or table i false || t) (at_drop_all (λ xs. held_in xs left i) items n h) ∙ or_none (get_or table i false))
-
-pub failed_end : (items : List Item) (n left : ℕ) (table : List Bool) (i : ℕ) → length items ≤ n → get_or table i false ≡ (get_or table i false || failed_in (drop n items) left i)
-failed_end items n left table i h = sym (ap (λ t. get_or table i false || t) (at_drop_all (λ xs. failed_in xs left i) items n h) ∙ or_none (get_or table i false))
-
--- one node more, after those before it
-pub verdicts_more : (mask : ℕ) (r : Remembered) (nodes : List Node) (known before : List Bool) (i : ℕ) (d : Node) (v : Bool) → i < length nodes → i < length known → before ≡ take i known → v ≡ verdict mask r (length before) before (get_or nodes i d) → verdicts_from mask r (take (i + 1) (set known i v)) (drop (i + 1) nodes) ≡ verdicts_from mask r (take i known) (drop i nodes)
-verdicts_more mask r nodes known before i d v here room same is =
-    let more : take (i + 1) (set known i v) ≡ take i known ++ (verdict mask r (length (take i known)) (take i known) (get_or nodes i d) ∷ [])
-    = take_more_set known i v room ∙ ap (λ t. take i known ++ (t ∷ [])) (is ∙ ap (λ l. verdict mask r (length l) l (get_or nodes i d)) same) in
-    ap (λ l. verdicts_from mask r l (drop (i + 1) nodes)) more
-    ∙ sym (at_drop_more (λ l. verdicts_from mask r (take i known) l) nodes i d here)
-
-pub verdicts_end : (mask : ℕ) (r : Remembered) (nodes : List Node) (known : List Bool) (i : ℕ) → length nodes ≤ i → take i known ≡ verdicts_from mask r (take i known) (drop i nodes)
-verdicts_end mask r nodes known i past = sym (at_drop_all (λ l. verdicts_from mask r (take i known) l) nodes i past)
+use Rattle.layer.specs.Tables.{told}
 
 -- only what has an item is recalled
 later : (x : Item) (xs : List Item) (y : Item) → Has xs y → Has (x ∷ xs) y

@@ -18,7 +18,6 @@ use Rattle.layer.specs.Sizes.{bits_below, bits_small, mask_grows, earned_within}
 
 -- what a book that fits leaves room for
 pub record Room (m : Model) (b : Book) : Type 0 where
-  pub named : all (names_label_below m.labels) b.nodes ≡ true
   pub labels : m.labels + length b.wishes ≤ 24
   pub bound : m.bound + amounts b.wishes ≤ 2000
   pub span : m.span ≤ 2 ^ 44
@@ -29,7 +28,6 @@ room m b e =
     let labels = and_parts (all (names_label_below m.labels) b.nodes) (nat_le (m.labels + length b.wishes) 24) whole.0 in
     let sizes = and_parts (bound_fits m b) (span_fits m) whole.1 in
     record {
-      named = labels.0;
       labels = leb-true (m.labels + length b.wishes) 24 labels.1;
       bound = leb-true (m.bound + amounts b.wishes) 2000 sizes.0;
       span = leb-true m.span (2 ^ 44) sizes.1;
@@ -173,19 +171,6 @@ pub layer_lawful : (m : Model) (o : Option WishBook) → Lawful m → Lawful (ov
 layer_lawful m None law = law
 layer_lawful m (Some w) law = over_lawful m (Some (contents w)) law (kept w).few
 
--- what the code of a layer leans on, where the book fits
-module _ (m : Model) (b : Book) (law : Lawful m) (fit : fits m b ≡ true) where
-  pub state_room : (s : ℕ) → m.state s ≡ true → s < 2 ^ 44
-  state_room s e = omega (arith, law.within s e, (room m b fit).span)
-
-  pub target_room : (s a j : ℕ) (d : Outcome) → j < length (m.outcomes s a) → (get_or (m.outcomes s a) j d).target < 2 ^ 44
-  target_room s a j d h = state_room (get_or (m.outcomes s a) j d).target (law.targets s a j d h)
-
-  pub label_room : m.labels ≤ 24
-  label_room = law.narrow
-
-  pub mask_room : (s : ℕ) (vs : List Bool) → m.mask s + 2 ^ m.labels * bits_of_wishes b.wishes vs < 2 ^ 24
-  mask_room s vs = lt_of_lt_of_le (mask_grows m.labels (length b.wishes) (m.mask s) (bits_of_wishes b.wishes vs) (law.labelled s) (bits_below (wish_held vs) b.wishes)) (pow_mono (room m b fit).labels)
-
-  pub reward_room : (s : ℕ) → unsigned_abs (m.reward s) ≤ 2000
-  reward_room s = omega (arith, law.bounded s, law.modest)
+-- the wish bits above a mask have room, where the book fits
+pub mask_room : (m : Model) (b : Book) → Lawful m → fits m b ≡ true → (s : ℕ) (vs : List Bool) → m.mask s + 2 ^ m.labels * bits_of_wishes b.wishes vs < 2 ^ 24
+mask_room m b law fit s vs = lt_of_lt_of_le (mask_grows m.labels (length b.wishes) (m.mask s) (bits_of_wishes b.wishes vs) (law.labelled s) (bits_below (wish_held vs) b.wishes)) (pow_mono (room m b fit).labels)
