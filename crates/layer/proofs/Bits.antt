@@ -1,24 +1,21 @@
 -- The bits of a memory and of a mask, one by one.
-use Rattle.std.proofs.Common.{◌≡◌, ℕ, zero, suc, ◌+◌, ◌*◌, ◌/◌, ◌%◌, ◌^◌, ◌<◌, Bool, true, false, not, eqb, List, [], ◌∷◌, map, length, get_or, sym, ap, ◌∙◌, subst, mul_comm, add_comm, arith, pow_pos}
+use Rattle.std.proofs.Common.{◌≡◌, ℕ, zero, suc, ◌+◌, ◌*◌, ◌/◌, ◌%◌, ◌^◌, ◌<◌, Bool, true, false, eqb, List, [], ◌∷◌, map, length, get_or, sym, ap, ◌∙◌, subst, mul_comm, add_comm, arith, pow_pos}
 use native.Mathlib.Nat.{div-eq_of_lt}
 use Rattle.std.specs.List.{ContainsAt as Has}
 use Rattle.std.proofs.lemmas.Nat.{shr-shr, shr_high}
 use Rattle.std.proofs.ByRecursion.{has_get_or}
 use Rattle.std.proofs.lemmas.List.{get_or-map}
 use Rattle.std.proofs.lemmas.Bool.{eq-eqb, and_parts, ltb-true}
-use Rattle.formula.specs.declared.Item.{Item}
-use Rattle.formula.specs.declared.Item.TheVariants.{Held, Failed}
+use Rattle.formula.specs.declared.Item.TheVariants.{Held}
 use Rattle.formula.specs.Formulas.{truth, formulas, earlier}
-use Rattle.formula.specs.Resting.{resting}
-use Rattle.formula.proofs.Chosen.{selected}
 use Rattle.formula.proofs.Trees.{length-formulas}
 use Rattle.truth.specs.Truth.{labelled, holds}
 use Rattle.words.specs.Tests.{all}
 use Rattle.words.proofs.Tests.{all_at}
-use Rattle.wishbook.specs.Book.{items_over}
 use Rattle.wishlayout.specs.Wishes.{good_wish}
 use Rattle.layer.specs.Judging.{bit, bits_of, item_held, wish_held, bits_of_wishes}
-use Rattle.layer.specs.Records.{trace_of, end_of, truths, tells, MemoryTells, WishesShow}
+use Rattle.layer.proofs.Verdicts.{item_told}
+use Rattle.layer.specs.Records.{trace_of, end_of, truths, MemoryTells, WishesShow}
 
 low : (b : Bool) (m : ℕ) → labelled (bit b + 2 * m) 0 ≡ b
 low true m = eq-eqb ((1 + 2 * m) / 1 % 2) 1 (omega arith)
@@ -53,14 +50,7 @@ pub memory_tells : MemoryTells
 memory_tells b ok τ zero k l = empty_bit k
 memory_tells b ok τ (suc n) k l =
     bits_bit (item_held (truths b.nodes τ n)) b.items k (Held 0) l
-    ∙ item_said (get_or b.items k (Held 0)) (subst (λ is. Has is (get_or b.items k (Held 0))) ok.remembers (has_get_or b.items k (Held 0) l))
-  where
-    told : (i : ℕ) → i < length b.nodes → get_or (truths b.nodes τ n) i false ≡ holds (get_or (formulas b.nodes) i truth) τ n
-    told i inside = get_or-map (λ f. holds f τ n) (formulas b.nodes) i truth false (omega (arith, length-formulas b.nodes))
-
-    item_said : (x : Item) → Has (items_over b.nodes b.wishes) x → item_held (truths b.nodes τ n) x ≡ tells b.nodes τ x n
-    item_said (Held i) has = told i ((selected b.nodes (resting b.nodes (map (λ w. w.node) b.wishes))).held_only i has).0
-    item_said (Failed i) has = ap not (told i ((selected b.nodes (resting b.nodes (map (λ w. w.node) b.wishes))).failed_only i has).0)
+    ∙ item_told b.nodes (map (λ w. w.node) b.wishes) (and_parts _ _ ok.names).0 τ n (get_or b.items k (Held 0)) (subst (λ is. Has is (get_or b.items k (Held 0))) ok.remembers (has_get_or b.items k (Held 0) l))
 
 above : (labels low_part high k : ℕ) → low_part < 2 ^ labels → labelled (low_part + 2 ^ labels * high) (labels + k) ≡ labelled high k
 above labels low_part high k small =

@@ -1,5 +1,7 @@
 -- One bit more, from the last x to the first; and one wish more, from the first to the last.
 use Rattle.std.proofs.Common.{◌≡◌, ℕ, ◌+◌, ◌*◌, ◌^◌, ◌<◌, ◌≤◌, Bool, true, false, cond, List, [], ◌∷◌, ◌++◌, length, get_or, drop, ℤ, pos, negsuc, ◌+ℤ◌, nat_abs, sym, refl, ap, ◌∙◌, subst, arith, w32, SFits, to_z, of_z}
+use Rattle.std.specs.List.{ContainsAt as Has}
+use Rattle.std.proofs.ByRecursion.{has_append_right}
 use Rattle.std.proofs.lemmas.List.{at_drop_more}
 use Rattle.std.proofs.lemmas.Int.{to_z-of_z}
 use Rattle.wishlayout.specs.declared.Wish.{Wish}
@@ -11,13 +13,23 @@ abbrev pub bits_onto : {X : Type 0} → (X → Bool) → List X → ℕ → ℕ
 bits_onto holds [] bits = bits
 bits_onto holds (x ∷ xs) bits = bit (holds x) + 2 * bits_onto holds xs bits
 
-pub onto_push : {X : Type 0} (holds : X → Bool) (xs : List X) (x : X) (bits : ℕ) → bits_onto holds (xs ++ x ∷ []) bits ≡ bits_onto holds xs (bit (holds x) + 2 * bits)
+onto_push : {X : Type 0} (holds : X → Bool) (xs : List X) (x : X) (bits : ℕ) → bits_onto holds (xs ++ x ∷ []) bits ≡ bits_onto holds xs (bit (holds x) + 2 * bits)
 onto_push holds [] x bits = refl
 onto_push holds (y ∷ xs) x bits = ap (λ n. bit (holds y) + 2 * n) (onto_push holds xs x bits)
+
+-- one x less is left, and its bit is in
+pub onto_more : {X : Type 0} (holds : X → Bool) (left rest : List X) (x : X) (bits more whole : ℕ) (b : Bool) → left ≡ rest ++ x ∷ [] → more ≡ bit b + 2 * bits → b ≡ holds x → bits_onto holds left bits ≡ whole → bits_onto holds rest more ≡ whole
+onto_more holds left rest x bits more whole b last next is before =
+    ap (bits_onto holds rest) (next ∙ ap (λ t. bit t + 2 * bits) is) ∙ sym (onto_push holds rest x bits) ∙ ap (λ xs. bits_onto holds xs bits) (sym last) ∙ before
 
 pub onto_none : {X : Type 0} (holds : X → Bool) (xs : List X) → bits_onto holds xs 0 ≡ bits_of holds xs
 onto_none holds [] = refl
 onto_none holds (x ∷ xs) = ap (λ n. bit (holds x) + 2 * n) (onto_none holds xs)
+
+-- equal bits make equal numbers
+pub bits_same : {X : Type 0} (f g : X → Bool) (xs : List X) → ((x : X) → Has xs x → f x ≡ g x) → bits_of f xs ≡ bits_of g xs
+bits_same f g [] h = refl
+bits_same f g (x ∷ xs) h = λ k. bit (h x (0, omega arith, λ d. refl) k) + 2 * bits_same f g xs (λ y has. h y (has_append_right (x ∷ []) xs y has)) k
 
 -- a sum of small numbers, in 32 bits
 pub small_fits : (z : ℤ) → nat_abs z < 2 ^ 31 → SFits w32 z

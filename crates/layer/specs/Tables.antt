@@ -3,11 +3,11 @@ use Rattle.std.specs.Prelude.{Bool, true, false, cond, List, slice_index_or, sli
 use Rattle.formula.specs.declared.Item.{Item}
 use Rattle.formula.specs.declared.Item.TheVariants.{Held, Failed}
 use Rattle.layer.specs.declared.recalled.Recalled.{Recalled}
-use Rattle.layer.specs.Judging.{Remembered}
 
--- what the tables tell: nothing past their ends
-abbrev pub told : Recalled → Remembered
-told r = record { held = λ i. slice_index_or r.held i false; failed = λ i. slice_index_or r.failed i false }
+-- what the tables tell of an item: nothing past their ends
+abbrev pub told : Recalled → Item → Bool
+told r (Held i) = slice_index_or r.held i false
+told r (Failed i) = slice_index_or r.failed i false
 
 abbrev pub held_with : Item → Bool → List Bool → List Bool
 held_with (Held i) bit held = cond bit (slice_set held i true) held

@@ -18,8 +18,8 @@ const LABELS: u64 = 24;
 // A reward is at most 2,000 from 0.
 const BOUND: u64 = 2000;
 
-// 2^44: with 16 bits of memory, a state is a number below 2^60.
-const SPAN: u64 = 17592186044416;
+// With 16 bits of memory, a state is a number below 2^60.
+const SPAN: u64 = 1 << 44;
 
 // The label that a node names is among the first `labels`.
 fn label_below(node: Node, labels: u32) -> bool

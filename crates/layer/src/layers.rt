@@ -17,7 +17,7 @@ pub struct Layer<M> {
     book: Option<WishBook>,
 }
 
-// The layer of a book on a model, and why it is not laid where it is not.
+// The layer of a book on a model, and why it is not laid where it is not: a layer is made in any case, so both are handed out.
 pub fn lay<M: SiteModel>(below: M, book: WishBook) -> (Layer<M>, Option<Refusal>)
     ensures meaning { meaning_of M.SiteModel.meaning result.0 ≡ over (M.SiteModel.meaning below) (Some (contents book)) }
     ensures refusal { result.1 ≡ refusal_of (M.SiteModel.meaning below) (contents book) }
@@ -66,6 +66,7 @@ impl<M: SiteModel> Layer<M> {
     }
 }
 
+// Every question goes to the layer where the book is laid, and else to the model below; a trait's methods are handed on one by one.
 impl<M: SiteModel> SiteModel for Layer<M> {
     ghost meaning = { λ l. meaning_of M.SiteModel.meaning l };
 

@@ -16,8 +16,8 @@ use model::{Outcome, Outcomes, SiteModel, Sizes};
 use refusal::Refusal;
 use wishbook::WishBook;
 
-// 2^16: a state is a state below times this, and a memory.
-pub(crate) const MEMORIES: u64 = 65536;
+// A state is a state below times this, and a memory of 16 bits.
+pub(crate) const MEMORIES: u64 = 1 << 16;
 
 #[derive(Drop)]
 pub(crate) struct Over<'a, M: SiteModel> {
@@ -108,17 +108,13 @@ impl<'a, M: SiteModel> SiteModel for Over<'a, M> {
     }
 
     fn ground(&self, s: u64) -> u64 {
-        match self.apart(s) {
-            Some((below, _)) => self.below.ground(below),
-            None => 0,
-        }
+        self.apart(s)
+            .map_or(0, |(below, _)| self.below.ground(below))
     }
 
     fn offers(&self, s: u64, a: u32) -> bool {
-        match self.apart(s) {
-            Some((below, _)) => self.below.offers(below, a),
-            None => false,
-        }
+        self.apart(s)
+            .is_some_and(|(below, _)| self.below.offers(below, a))
     }
 
     fn outcomes(&self, s: u64, a: u32) -> Outcomes {

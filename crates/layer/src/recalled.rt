@@ -13,13 +13,14 @@ pub(crate) struct Recalled {
 
 impl Recalled {
     ghost use Rattle.std.specs.Prelude.{ℕ, ◌<◌};
-    ghost use Rattle.layer.specs.Judging.{held_in, failed_in};
+    ghost use Rattle.formula.specs.declared.Item.TheVariants.{Held, Failed};
+    ghost use Rattle.layer.specs.Judging.{recalled};
     ghost use Rattle.layer.specs.Tables.{held_with, failed_with, told};
 
     // The bits of a memory, entered item by item from the lowest.
     pub(crate) fn of(items: &[Item], memory: u64) -> Recalled
-        ensures held { (i : ℕ) → i < 128 → (told result).held i ≡ held_in items.now memory i }
-        ensures failed { (i : ℕ) → i < 128 → (told result).failed i ≡ failed_in items.now memory i }
+        ensures held { (i : ℕ) → i < 128 → told result (Held i) ≡ recalled items.now memory (Held i) }
+        ensures failed { (i : ℕ) → i < 128 → told result (Failed i) ≡ recalled items.now memory (Failed i) }
     {
         let mut all = Recalled {
             held: [false; 128],
@@ -48,14 +49,14 @@ impl Recalled {
 
     // Whether it recalls that node `i` held.
     pub(crate) fn held(&self, i: u8) -> bool
-        ensures { result ≡ (told self.now).held i }
+        ensures { result ≡ told self.now (Held i) }
     {
         at(&self.held, i)
     }
 
     // Whether it recalls that node `i` failed.
     pub(crate) fn failed(&self, i: u8) -> bool
-        ensures { result ≡ (told self.now).failed i }
+        ensures { result ≡ told self.now (Failed i) }
     {
         at(&self.failed, i)
     }
