@@ -10,7 +10,7 @@ use std::test::Fail;
 use wishbook::read_wish;
 
 // A reader of books: why it refuses a file, if it does.
-pub trait Reader {
+pub trait Reader: Drop {
     fn refusal_of(&self, file: &[u8]) -> Option<Fault>;
 }
 
