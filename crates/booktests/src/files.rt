@@ -159,11 +159,7 @@ impl<R: Reader> Bench<R> {
     }
 
     // Eight outcomes of given weights, from a place on: the word at weight 0, what each next one adds, and the weight's lowest bit.
-    pub fn weighings(
-        &self,
-        layout: (usize, u32, u32, u32),
-        rows: &[Weighing],
-    ) -> Result<(), Fail> {
+    pub fn weighings(&self, layout: (usize, u32, u32, u32), rows: &[Weighing]) -> Result<(), Fail> {
         let (at, first, step, low) = layout;
         for (weights, expected) in rows {
             let mut put = Vec::new(self.heap);
@@ -174,7 +170,11 @@ impl<R: Reader> Bench<R> {
             }
             let mut words = self.spliced(at, 8, put.as_slice())?;
             close(&mut words)?;
-            self.words(words.as_slice(), *expected, format_args!("weights {weights:?}"))?;
+            self.words(
+                words.as_slice(),
+                *expected,
+                format_args!("weights {weights:?}"),
+            )?;
         }
         Ok(())
     }
@@ -187,7 +187,11 @@ impl<R: Reader> Bench<R> {
             for bit in *low..=*high {
                 let put = [word | 1u32.rotate_left(bit)];
                 let words = self.spliced(at, 1, &put)?;
-                self.words(words.as_slice(), (3, at), format_args!("word {at} with bit {bit}"))?;
+                self.words(
+                    words.as_slice(),
+                    (3, at),
+                    format_args!("word {at} with bit {bit}"),
+                )?;
             }
         }
         Ok(())
@@ -202,7 +206,11 @@ impl<R: Reader> Bench<R> {
                 if !kinds.contains(&kind) {
                     let put = [word | kind.rotate_left(28)];
                     let words = self.spliced(at, 1, &put)?;
-                    self.words(words.as_slice(), (2, at), format_args!("word {at} of kind {kind}"))?;
+                    self.words(
+                        words.as_slice(),
+                        (2, at),
+                        format_args!("word {at} of kind {kind}"),
+                    )?;
                 }
             }
         }

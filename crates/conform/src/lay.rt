@@ -7,7 +7,7 @@ use model::SiteModel;
 use pile::{Three, stack};
 use rulebook::read_rule;
 use sitebook::read_site;
-use std::alloc::{AllocError, Global};
+use std::alloc::Global;
 use wishbook::{WishBook, read_wish};
 
 // A ground book, not read yet. A pile takes its ground book away, so that it is read anew for each.
@@ -21,16 +21,11 @@ struct Ground<'a> {
 impl Ground<'_> {
     fn read(&self) -> Result<GroundBook, Failure> {
         match self.kind {
-            "site" => match read_site(self.heap, self.bytes) {
-                Ok(book) => Ok(GroundBook::Site(book)),
-                Err(_) => Err(Failure::Unreadable),
-            },
-            "rule" => match read_rule(self.bytes) {
-                Ok(book) => Ok(GroundBook::Rule(book)),
-                Err(_) => Err(Failure::Unreadable),
-            },
-            _ => Err(Failure::Unreadable),
+            "site" => read_site(self.heap, self.bytes).map(GroundBook::Site),
+            "rule" => read_rule(self.bytes).map(GroundBook::Rule),
+            _ => return Err(Failure::Unreadable),
         }
+        .map_err(|_| Failure::Unreadable)
     }
 
     // The books laid on it, the first one lowest.
@@ -45,10 +40,7 @@ fn wish_of(heap: Global, hex: &str) -> Result<WishBook, Failure> {
         Err(Failure::Unknown) => return Err(Failure::Unreadable),
         bytes => bytes?,
     };
-    match read_wish(bytes.as_slice()) {
-        Ok(book) => Ok(book),
-        Err(_) => Err(Failure::Unreadable),
-    }
+    read_wish(bytes.as_slice()).map_err(|_| Failure::Unreadable)
 }
 
 // Lays each wish book in turn; a refused one is not laid.

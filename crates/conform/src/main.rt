@@ -74,10 +74,7 @@ fn site(heap: Global, bytes: &[u8]) -> Result<String, Failure> {
     let sizes = read_site(heap, bytes)?.sizes();
     Ok(format!(in heap;
         "ok {} {} {} {}",
-        sizes.span,
-        sizes.labels,
-        sizes.actions,
-        sizes.bound
+        sizes.span, sizes.labels, sizes.actions, sizes.bound
     )?)
 }
 

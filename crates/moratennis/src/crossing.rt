@@ -44,7 +44,10 @@ pub fn run(rt: &HostRuntime) -> anyhow::Result<()> {
     show::wishes(rt, &wish)?;
     let pile = stack(GroundBook::Site(site), Some(wish), None, None);
     let sizes = pile.sizes();
-    println!(rt; "the wish laid on the site: {} labels, rewards within {}", sizes.labels, sizes.bound)?;
+    println!(rt;
+        "the wish laid on the site: {} labels, rewards within {}",
+        sizes.labels, sizes.bound
+    )?;
     println!(rt; "a crossing with two trains on the bridge at once:")?;
     follow(rt, &pile)
 }
@@ -54,8 +57,9 @@ fn follow(rt: &HostRuntime, pile: &Three<GroundBook>) -> anyhow::Result<()> {
     let mut state = start_of(pile);
     slot(rt, pile, 0, state)?;
     for (i, (action, outcome)) in STEPS.into_iter().enumerate() {
-        state = reachable_at(pile, state, action, outcome)
-            .context("the crossing takes an outcome that there is not")?;
+        state = reachable_at(pile, state, action, outcome).context(
+            "the crossing takes an outcome that there is not",
+        )?;
         slot(rt, pile, i + 1, state)?;
     }
     Ok(())

@@ -6,6 +6,7 @@ use truth::shows;
 use wishbook::WishBook;
 
 // The labels of a mask, as `p0 p3`, or `-` where there are none.
+#[derive(Clone, Copy)]
 struct Labels(u32);
 
 impl fmt::Display for Labels {
@@ -25,6 +26,7 @@ impl fmt::Display for Labels {
 }
 
 // The formula of node `top`.
+#[derive(Clone, Copy)]
 struct Formula<'a> {
     nodes: &'a [Node],
     top: u8,
@@ -32,12 +34,12 @@ struct Formula<'a> {
 
 impl fmt::Display for Formula<'_> {
     fn fmt<W: fmt::Write>(&self, f: &mut fmt::Formatter<W>) -> fmt::Result {
-        formula(f, self.nodes, self.top)
+        write_formula(f, self.nodes, self.top)
     }
 }
 
 // The formula of node `i`; operands come before their node.
-fn formula<W: fmt::Write>(f: &mut fmt::Formatter<W>, nodes: &[Node], i: u8) -> fmt::Result {
+fn write_formula<W: fmt::Write>(f: &mut fmt::Formatter<W>, nodes: &[Node], i: u8) -> fmt::Result {
     let at = i as usize;
     let Some(node) = nodes.get(at) else {
         return f.write_str("?");
@@ -56,12 +58,12 @@ fn formula<W: fmt::Write>(f: &mut fmt::Formatter<W>, nodes: &[Node], i: u8) -> f
     };
     let Some(a) = a else {
         f.write_str(word)?;
-        return formula(f, below, b);
+        return write_formula(f, below, b);
     };
     f.write_str("(")?;
-    formula(f, below, a)?;
+    write_formula(f, below, a)?;
     f.write_str(word)?;
-    formula(f, below, b)?;
+    write_formula(f, below, b)?;
     f.write_str(")")
 }
 
@@ -96,6 +98,7 @@ pub fn states<M: Numbered>(rt: &impl Print, model: &M) -> anyhow::Result<()> {
 }
 
 // Outcomes, as `4/8 to state 0, 4/8 to state 1`.
+#[derive(Clone, Copy)]
 struct Leads<'a>(&'a [Outcome]);
 
 impl fmt::Display for Leads<'_> {
