@@ -1,6 +1,6 @@
 -- The tables follow the draft of the book that is being read, and at the end they hold the book. For others: `Storing`, what
 -- is known of the pass so far, and the `storing_` lemmas, one for each thing that the pass does.
-use Rattle.std.proofs.Common.{◌≡◌, ℕ, zero, suc, ◌+◌, ◌-◌, ◌*◌, ◌%◌, ◌^◌, ◌<◌, ◌≤◌, Bool, not, ◌&&◌, eqb, ltb, leb, List, [], ◌∷◌, ◌++◌, length, get_or, drop, replicate, Some, None, Ok, Err, Result, sym, refl, ap, ◌∙◌, subst, inl, inr, zero-add, arith}
+use Rattle.std.proofs.Common.{◌≡◌, ℕ, zero, suc, ◌+◌, ◌-◌, ◌*◌, ◌%◌, ◌^◌, ◌<◌, ◌≤◌, Bool, not, ◌&&◌, eqb, ltb, leb, List, [], ◌∷◌, ◌++◌, length, get_or, drop, replicate, Some, None, Ok, Err, Result, sym, refl, ap, ◌∙◌, subst, inl, inr, zero-add, arith, rules}
 use Rattle.std.proofs.lemmas.List.{append_assoc, replicate_more}
 use Rattle.std.proofs.lemmas.Bool.{cases_Bool, leb-true, cond-true, cond-false}
 use Rattle.refusal.specs.declared.Refusal.{Refusal}
@@ -208,11 +208,8 @@ pub record Storing (bytes rest : List ℕ) (c : Counts) (h : Held) : Type 0 wher
   pub place : ℕ
   pub left : run site_format draft place rest ≡ got book
 
-pub storing_start : (bytes : List ℕ) (c : Counts) (h : Held) (b : Site) → reading site_format bytes ≡ got b → Counted c b → h ≡ nothing → Storing bytes bytes c h
-storing_start bytes c h b read counted is = record { book = b; read = read; counted = counted; draft = fresh; good = tt; kept = is; place = 0; left = read }
-
 stop_is_no_book : {r : Refusal} {p : ℕ} {b : Site} → stop r p ≡ got b → ⊥
-stop_is_no_book e = let z : ◌≡◌ {A = ℕ} 0 1 = cc in omega arith
+stop_is_no_book e = search rules
 
 closing_whole : (whole : Result Site Refusal) (p : ℕ) (b : Site) → closing whole p ≡ got b → whole ≡ Ok b
 closing_whole (Ok x) p b e = cc
@@ -257,9 +254,9 @@ module _ (bytes rest : List ℕ) (c : Counts) (h : Held) (s : Storing bytes rest
 
     closes_table : (d : Draft) → Good d → Stores h d → whole_book d ≡ Ok s.book → Closes
     unfolding whole_book
-    closes_table fresh good kept whole = let z : ◌≡◌ {A = ℕ} 0 1 = cc in absurd (omega arith)
-    closes_table (marking head ms o) good kept whole = let z : ◌≡◌ {A = ℕ} 0 1 = cc in absurd (omega arith)
-    closes_table (moving head ms cs mv due) good kept whole = let z : ◌≡◌ {A = ℕ} 0 1 = cc in absurd (omega arith)
+    closes_table fresh good kept whole = search rules
+    closes_table (marking head ms o) good kept whole = search rules
+    closes_table (moving head ms cs mv due) good kept whole = search rules
     closes_table (listing head ms cs) good kept whole =
         let count = good.1.0 in
         let few = good.1.1.1 in

@@ -12,6 +12,7 @@ mod reading;
 pub use reading::read_site;
 
 // The outcomes of action `a` in state `s` are the moves from `starts[k]` to `starts[k + 1]`, with `k = s * actions + a`.
+// One row for all cells, since a Vec for each would be up to 32,768 allocations.
 #[derive(Drop)]
 pub struct SiteBook {
     labels: u32,

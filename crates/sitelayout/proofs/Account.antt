@@ -1,7 +1,7 @@
 -- Whatever is accepted is the encoding of the site book that was read: the words read so far are those of the draft. For
 -- others: `Good`, what is known of a draft; `word_kept`, that each word keeps it; `end_word_reads`, that only an end word ends;
 -- `whole_book_is` and `book_kept` of the book at the end; `total-push`, `padded-length` and the like.
-use Rattle.std.proofs.Common.{◌≡◌, ℕ, zero, suc, ◌+◌, ◌-◌, ◌*◌, ◌/◌, ◌%◌, ◌^◌, ◌<◌, ◌≤◌, Bool, true, false, cond, not, ◌&&◌, eqb, ltb, leb, List, [], ◌∷◌, ◌++◌, length, replicate, Some, None, Ok, Err, Option, Result, sym, refl, ap, ◌∙◌, subst, inl, inr, append_assoc, append-nil, zero-add, arith, length-append}
+use Rattle.std.proofs.Common.{◌≡◌, ℕ, zero, suc, ◌+◌, ◌-◌, ◌*◌, ◌/◌, ◌%◌, ◌^◌, ◌<◌, ◌≤◌, Bool, true, false, cond, not, ◌&&◌, eqb, ltb, leb, List, [], ◌∷◌, ◌++◌, length, replicate, Some, None, Ok, Err, Option, Result, sym, refl, ap, ◌∙◌, subst, inl, inr, append_assoc, append-nil, zero-add, arith, rules, length-append}
 use lib.ListN.{length-replicate}
 use Rattle.std.proofs.lemmas.Nat.{div-mul-add, mod-mul-add, mul-add-lt}
 use Rattle.std.proofs.lemmas.List.{length_push}
@@ -122,6 +122,9 @@ apart-push (x ∷ ms) m h k =
 pub same_more : {x y : Draft} → more x ≡ more y → x ≡ y
 same_more e = cc
 
+pub more_is_no_end : {t : Draft} → more t ≡ ends → ⊥
+more_is_no_end e = search rules
+
 abbrev Next : Draft → ℕ → Draft → Type 0
 Next d w t = Good t × (written t ≡ written d ++ (w ∷ []))
 
@@ -228,7 +231,7 @@ word_kept (marking h ms (Some m)) t w g e =
     subst (Next (marking h ms (Some m)) w) (same_more got.1.1) (mark_next h ms m w got.0 g got.1.0)
 word_kept (listing h ms cs) t w g e =
     elim (cases_Bool (eqb (kind w) 15)) [
-      | inl is ↦ let z : ◌≡◌ {A = ℕ} 0 1 = cc (ap (λ b. cond b ends (onto (entry_of h.states h.actions w) (read_entry h ms cs))) is, e) in absurd (omega arith)
+      | inl is ↦ absurd (more_is_no_end (sym e ∙ ap (λ b. cond b ends (onto (entry_of h.states h.actions w) (read_entry h ms cs))) is))
       | inr no15 ↦
           let got = onto_more (entry_of h.states h.actions w) (read_entry h ms cs) t (sym (ap (λ b. cond b ends (onto (entry_of h.states h.actions w) (read_entry h ms cs))) no15) ∙ e) in
           let rising = check_more (leb (length cs) (place_of h got.0)) NotRising (more (moving h ms (padded (place_of h got.0) cs) [] (got.0.outcomes - 1))) t got.1.1 in
@@ -238,9 +241,6 @@ word_kept (moving h ms cs mv due) t w g e =
     let got = onto_more (move_of h.states w) (read_move h ms cs mv due) t e in
     let free = check_more (not (taken got.0.target mv)) NotRising (moved h ms cs (mv ++ (got.0 ∷ [])) due) t got.1.1 in
     move_next h ms cs mv due w got.0 t g got.1.0 (not-true (taken got.0.target mv) free.0) free.1
-
-pub more_is_no_end : {t : Draft} → more t ≡ ends → ⊥
-more_is_no_end e = let z : ◌≡◌ {A = ℕ} 0 1 = cc in omega arith
 
 moved_no_end : (h : Head) (ms : List Mark) (cs : List (List Move)) (mv : List Move) (due : ℕ) → moved h ms cs mv due ≡ ends → ⊥
 moved_no_end h ms cs mv zero e = more_is_no_end (check_ends (eqb (total mv) 8) WrongTotal (more (listing h ms (cs ++ (mv ∷ [])))) e).1
@@ -296,9 +296,9 @@ whole_book_is h ms cs b e =
 -- a whole book is valid, and its words are those that were read
 pub book_kept : (d : Draft) (b : Site) → Good d → whole_book d ≡ Ok b → (valid b ≡ true) × (written d ≡ site_words b)
 unfolding whole_book
-book_kept fresh b g e = let z : ◌≡◌ {A = ℕ} 0 1 = cc in absurd (omega arith)
-book_kept (marking h ms o) b g e = let z : ◌≡◌ {A = ℕ} 0 1 = cc in absurd (omega arith)
-book_kept (moving h ms cs mv due) b g e = let z : ◌≡◌ {A = ℕ} 0 1 = cc in absurd (omega arith)
+book_kept fresh b g e = search rules
+book_kept (marking h ms o) b g e = search rules
+book_kept (moving h ms cs mv due) b g e = search rules
 book_kept (listing h ms cs) b g e =
     let told = whole_book_is h ms cs b e in
     subst (λ b. (valid b ≡ true) × (written (listing h ms cs) ≡ site_words b)) told.1 (

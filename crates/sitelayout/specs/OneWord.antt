@@ -1,6 +1,6 @@
 -- What one word of a site book says, by its kind: how it is written, and what it says where it is in order by itself.
 -- The tests come in this order: the kind, unused bits, ranges.
-use Rattle.std.specs.Prelude.{ℕ, ◌+◌, ◌*◌, ◌^◌, ◌&&◌, Ok, Result, ◌==◌, nat_le, nat_lt}
+use Rattle.std.specs.Prelude.{ℕ, ◌+◌, ◌-◌, ◌*◌, ◌^◌, Bool, ◌&&◌, Ok, Result, ◌==◌, nat_le, nat_lt}
 use Rattle.refusal.specs.declared.Refusal.{Refusal}
 use Rattle.refusal.specs.declared.Refusal.TheVariants.{WrongKind, UnusedBit, OutOfRange}
 use Rattle.words.specs.Words.{field, kind}
@@ -10,6 +10,7 @@ use Rattle.sitelayout.specs.declared.Entry.{Entry}
 use Rattle.sitelayout.specs.declared.Head.{Head}
 use Rattle.sitelayout.specs.declared.Move.{Move}
 use Rattle.sitelayout.specs.declared.Worth.{Worth}
+use Rattle.sitelayout.specs.declared.kind.Kind.{Kind}
 use Rattle.sitelayout.specs.declared.kind.Kind.TheVariants as kinds
 use Rattle.sitelayout.specs.Kinds.{number_of}
 
@@ -28,42 +29,44 @@ word_of_entry state action outcomes = number_of kinds.Entry * 2 ^ 28 + (state + 
 abbrev pub word_of_move : Move → ℕ
 word_of_move m = number_of kinds.Move * 2 ^ 28 + (m.target + m.weight * 2 ^ 12)
 
+-- a word of kind k, whose fields are its lowest n bits: it says x where its ranges are right
+abbrev pub said : {X : Type 0} → Kind → ℕ → ℕ → Bool → X → Result X Refusal
+said k n w ranges x =
+    require (kind w == number_of k) WrongKind
+    (require (field w n (28 - n) == 0) UnusedBit
+    (require ranges OutOfRange (Ok x)))
+
 -- kind 1: the number of states in bits 0 to 12, of labels in 13 to 17, of actions in 18 to 21
 abbrev pub head_of : ℕ → Result Head Refusal
 head_of w =
-    require (kind w == number_of kinds.Head) WrongKind
-    (require (field w 22 6 == 0) UnusedBit
-    (require (within 1 4096 (field w 0 13) && (nat_le (field w 13 5) 24 && within 1 8 (field w 18 4))) OutOfRange
-    (Ok (record { states = field w 0 13; labels = field w 13 5; actions = field w 18 4 }))))
+    said kinds.Head 22 w
+    (within 1 4096 (field w 0 13) && (nat_le (field w 13 5) 24 && within 1 8 (field w 18 4)))
+    (record { states = field w 0 13; labels = field w 13 5; actions = field w 18 4 })
 
 -- kind 2: the label mask in bits 0 to 23
 abbrev pub mask_of : ℕ → ℕ → Result ℕ Refusal
 mask_of labels w =
-    require (kind w == number_of kinds.Mask) WrongKind
-    (require (field w 24 4 == 0) UnusedBit
-    (require (nat_lt (field w 0 24) (2 ^ labels)) OutOfRange
-    (Ok (field w 0 24))))
+    said kinds.Mask 24 w
+    (nat_lt (field w 0 24) (2 ^ labels))
+    (field w 0 24)
 
 -- kind 3: the reward plus 2,000 in bits 0 to 11, the origin in 12 to 23
 abbrev pub reward_of : ℕ → Result Worth Refusal
 reward_of w =
-    require (kind w == number_of kinds.Reward) WrongKind
-    (require (field w 24 4 == 0) UnusedBit
-    (require (nat_le (field w 0 12) 4000) OutOfRange
-    (Ok (record { raised = field w 0 12; origin = field w 12 12 }))))
+    said kinds.Reward 24 w
+    (nat_le (field w 0 12) 4000)
+    (record { raised = field w 0 12; origin = field w 12 12 })
 
 -- kind 4: the state in bits 0 to 11, the action in 12 to 14, the number of outcomes in 15 to 18
 abbrev pub entry_of : ℕ → ℕ → ℕ → Result Entry Refusal
 entry_of states actions w =
-    require (kind w == number_of kinds.Entry) WrongKind
-    (require (field w 19 9 == 0) UnusedBit
-    (require (nat_lt (field w 0 12) states && (nat_lt (field w 12 3) actions && within 1 8 (field w 15 4))) OutOfRange
-    (Ok (record { state = field w 0 12; action = field w 12 3; outcomes = field w 15 4 }))))
+    said kinds.Entry 19 w
+    (nat_lt (field w 0 12) states && (nat_lt (field w 12 3) actions && within 1 8 (field w 15 4)))
+    (record { state = field w 0 12; action = field w 12 3; outcomes = field w 15 4 })
 
 -- kind 5: the target in bits 0 to 11, the weight in 12 to 15
 abbrev pub move_of : ℕ → ℕ → Result Move Refusal
 move_of states w =
-    require (kind w == number_of kinds.Move) WrongKind
-    (require (field w 16 12 == 0) UnusedBit
-    (require (nat_lt (field w 0 12) states && within 1 8 (field w 12 4)) OutOfRange
-    (Ok (record { target = field w 0 12; weight = field w 12 4 }))))
+    said kinds.Move 16 w
+    (nat_lt (field w 0 12) states && within 1 8 (field w 12 4))
+    (record { target = field w 0 12; weight = field w 12 4 })

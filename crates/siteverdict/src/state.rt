@@ -22,7 +22,7 @@ pub struct Marks {
     pub head: Head,
     pub read: u32,
     pub bound: u32,
-    ghost due: { read < head.states },
+    ghost few: { read < head.states },
     ghost narrow: { head.actions ≤ 8 },
 }
 

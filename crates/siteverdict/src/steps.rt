@@ -84,10 +84,10 @@ impl Marks {
     fn reward(self, word: u32) -> Result<State, Refusal>
         ensures { (d : layout.Draft) → AtReward self d → Leads Tracks (read_word d word) result }
     {
-        let size = read_reward(word)?.raised.abs_diff(2000) as u32;
+        let worth = read_reward(word)?;
         let head = self.head;
         let read = self.read + 1;
-        let bound = self.bound.max(size);
+        let bound = self.bound.max(worth.raised.abs_diff(2000) as u32);
         if read < head.states {
             return Ok(State::Mask(Marks { head, read, bound }));
         }
