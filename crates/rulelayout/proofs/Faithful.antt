@@ -1,8 +1,8 @@
 -- The files that are read are just the encodings of valid rule books: `rule_faithful`. For a reader: every draft that reading
 -- comes to is sound (`sound_steps`), and a sound draft that ends well is a valid book (`sound_valid`).
-use Rattle.std.proofs.Common.{◌≡◌, ℕ, suc, ◌*◌, ◌^◌, ◌<◌, ◌≤◌, Bool, true, false, cond, ◌&&◌, eqb, ltb, List, [], ◌∷◌, ◌++◌, length, Ok, Err, Result, sym, refl, ap, ◌∙◌, subst, inl, inr, arith, lit<}
+use Rattle.std.proofs.Common.{◌≡◌, ℕ, ◌*◌, ◌^◌, ◌<◌, ◌≤◌, Bool, true, false, cond, ◌&&◌, eqb, ltb, List, [], ◌∷◌, ◌++◌, length, Ok, Err, Result, sym, refl, ap, ◌∙◌, subst, inl, inr, arith, lit<}
 use Rattle.std.proofs.lemmas.Bool.{and_parts, and_from, eqb-true, eq-eqb, ltb-true, ltb-false, lt-ltb, le-ltb, cases_Bool, cond-true, cond-false}
-use Rattle.std.proofs.lemmas.List.{append-nil, append_assoc, length_push, length-append}
+use Rattle.std.proofs.lemmas.List.{append-nil, append_assoc, flat_map_more, length_push, length-append, length-map, map_push}
 use Rattle.refusal.specs.declared.Refusal.{Refusal}
 use Rattle.refusal.specs.declared.Refusal.TheVariants.{WrongKind, WrongTotal, NoWait}
 use Rattle.words.specs.Words.{kind, end_word}
@@ -16,7 +16,7 @@ use Rattle.rulelayout.specs.declared.Effect.{Effect}
 use Rattle.rulelayout.specs.declared.RuleHead.{RuleHead}
 use Rattle.rulelayout.specs.declared.Masks.{Masks}
 use Rattle.rulelayout.specs.Rule.{Act, Rule, total, fits, good_effect, good_act, good_head, waits, valid}
-use Rattle.rulelayout.specs.Layout.{word_of_head, action_word, effect_word, effect_words, act_words, rule_words, head_of, masks_of, Draft, blank, listing, inside, whole, listed, act_of, effect_of, filled, read_word, rule_of, whole_rule, rule_format, Begun, Sound}
+use Rattle.rulelayout.specs.Layout.{word_of_head, action_word, effect_word, effect_words, words_of_act, act_words, rule_words, head_of, masks_of, Draft, blank, listing, inside, whole, listed, act_of, effect_of, filled, read_word, rule_of, whole_rule, rule_format, Begun, Sound}
 use Rattle.rulelayout.proofs.OneWord.{head_only, head_parts, head_low, head_back, masks_only, masks_low, masks_back, count_parts}
 
 -- the words read so far
@@ -25,19 +25,6 @@ written blank = []
 written (listing h acts) = word_of_head h.switches h.actions h.start ∷ act_words acts
 written (inside h acts m es) = word_of_head h.switches h.actions h.start ∷ (act_words acts ++ (action_word m.first m.second m.count ∷ effect_words es))
 written (whole h acts) = word_of_head h.switches h.actions h.start ∷ act_words acts
-
-effect_words_push : (es : List Effect) (e : Effect) → effect_words (es ++ (e ∷ [])) ≡ effect_words es ++ (effect_word e ∷ [])
-effect_words_push [] e = refl
-effect_words_push (x ∷ es) e = ap (λ l. effect_word x ∷ l) (effect_words_push es e)
-
-abbrev words_of_act : Act → List ℕ
-words_of_act a = action_word a.on a.off (length a.effects) ∷ effect_words a.effects
-
-act_words_push : (acts : List Act) (a : Act) → act_words (acts ++ (a ∷ [])) ≡ act_words acts ++ words_of_act a
-act_words_push [] a = ap (λ l. action_word a.on a.off (length a.effects) ∷ l) (append-nil (effect_words a.effects))
-act_words_push (x ∷ acts) a =
-    ap (λ l. action_word x.on x.off (length x.effects) ∷ (effect_words x.effects ++ l)) (act_words_push acts a)
-    ∙ sym (ap (λ l. action_word x.on x.off (length x.effects) ∷ l) (append_assoc (effect_words x.effects) (act_words acts) (words_of_act a)))
 
 more_is_not_end : {S : Type 0} {t : S} → more t ≡ ends → ⊥
 more_is_not_end e = let z : ◌≡◌ {A = ℕ} 0 1 = cc in omega arith
@@ -62,7 +49,7 @@ module _ (h : RuleHead) (acts : List Act) (m : Masks) (es : List Effect) (w : �
   all_good = all_push (good_effect h.switches) es (effect_of e) sound.3 fit
 
   effects_then : effect_words es' ≡ effect_words es ++ (w ∷ [])
-  effects_then = effect_words_push es (effect_of e) ∙ ap (λ x. effect_words es ++ (x ∷ [])) (sym is)
+  effects_then = map_push effect_word es (effect_of e) ∙ ap (λ x. effect_words es ++ (x ∷ [])) (sym is)
 
   abbrev first_words : List ℕ
   first_words = word_of_head h.switches h.actions h.start ∷ act_words acts
@@ -85,7 +72,7 @@ module _ (h : RuleHead) (acts : List Act) (m : Masks) (es : List Effect) (w : �
       subst (λ (x : Draft). Steps (inside h acts m es) w x) (sym at) (
         told.0,
         told.1
-            ∙ ap (λ l. word_of_head h.switches h.actions h.start ∷ l) (act_words_push acts (act_of m es') ∙ ap (λ n. act_words acts ++ (action_word m.first m.second n ∷ effect_words es')) full)
+            ∙ ap (λ l. word_of_head h.switches h.actions h.start ∷ l) (sym (flat_map_more words_of_act [] acts (act_of m es')) ∙ ap (λ n. act_words acts ++ (action_word m.first m.second n ∷ effect_words es')) full)
             ∙ written_then,
       )
 
@@ -162,7 +149,8 @@ sound_valid s b sound e = (finishes s b sound e).0
 
 -- the way of a valid book through the format
 
-act_parts : (switches : ℕ) (a : Act) → good_act switches a ≡ true → (fits switches a.on a.off (length a.effects) ≡ true) × (all (good_effect switches) a.effects ≡ true) × (total a.effects ≡ 8)
+-- what a good action comes to
+pub act_parts : (switches : ℕ) (a : Act) → good_act switches a ≡ true → (fits switches a.on a.off (length a.effects) ≡ true) × (all (good_effect switches) a.effects ≡ true) × (total a.effects ≡ 8)
 act_parts switches a good =
     let one = and_parts (fits switches a.on a.off (length a.effects)) (all (good_effect switches) a.effects && eqb (total a.effects) 8) good in
     let two = and_parts (all (good_effect switches) a.effects) (eqb (total a.effects) 8) one.1 in
@@ -247,16 +235,12 @@ module _ (h : RuleHead) (few : h.switches ≤ 10) where
   all_acts_pass [] good first full = let z : ◌≡◌ {A = ℕ} 0 1 = cc in absurd (omega arith)
   all_acts_pass (a ∷ rest) good first full = acts_pass [] a rest good full
 
-effect_words_length : (es : List Effect) → length (effect_words es) ≡ length es
-effect_words_length [] = refl
-effect_words_length (e ∷ es) = ap suc (effect_words_length es)
-
 act_words_length : (switches : ℕ) (acts : List Act) → all (good_act switches) acts ≡ true → length (act_words acts) ≤ 9 * length acts
 act_words_length switches [] good = omega arith
 act_words_length switches (a ∷ acts) good =
     let one = and_parts (good_act switches a) (all (good_act switches) acts) good in
     let parts = act_parts switches a one.0 in
-    omega (arith, act_words_length switches acts one.1, count_parts switches a.on a.off (length a.effects) parts.0, length-append (effect_words a.effects) (act_words acts), effect_words_length a.effects)
+    omega (arith, act_words_length switches acts one.1, count_parts switches a.on a.off (length a.effects) parts.0, length-append (effect_words a.effects) (act_words acts), length-map a.effects effect_word)
 
 reads_back : ReadsBack rule_format (λ b. valid b ≡ true) rule_words
 unfolding read_word whole_rule

@@ -1,6 +1,6 @@
 -- How a rule book is written in words, and how it is read: head, each action in order with its outcomes right after it, and
 -- the end word. The tests of one word stand first, and the order of the words after them.
-use Rattle.std.specs.Prelude.{◌≡◌, ℕ, ◌+◌, ◌*◌, ◌^◌, ◌<◌, true, cond, List, [], ◌∷◌, ◌++◌, length, Ok, Err, Result, ◌==◌, bit_and, nat_lt}
+use Rattle.std.specs.Prelude.{◌≡◌, ℕ, ◌+◌, ◌*◌, ◌^◌, ◌<◌, true, cond, List, [], ◌∷◌, ◌++◌, map, flat_map, length, Ok, Err, Result, ◌==◌, bit_and, nat_lt}
 use Rattle.std.specs.Coded.{Unit-prop}
 use Rattle.std.proofs.Props.{props}
 use Rattle.refusal.specs.declared.Refusal.{Refusal}
@@ -29,12 +29,14 @@ abbrev pub effect_word : Effect → ℕ
 effect_word e = masks_word 8 e.set e.clear e.weight
 
 abbrev pub effect_words : List Effect → List ℕ
-effect_words [] = []
-effect_words (e ∷ es) = effect_word e ∷ effect_words es
+effect_words es = map effect_word es
+
+-- the word of an action, and those of its outcomes right after it
+abbrev pub words_of_act : Act → List ℕ
+words_of_act a = action_word a.on a.off (length a.effects) ∷ effect_words a.effects
 
 abbrev pub act_words : List Act → List ℕ
-act_words [] = []
-act_words (a ∷ rest) = action_word a.on a.off (length a.effects) ∷ (effect_words a.effects ++ act_words rest)
+act_words acts = flat_map words_of_act acts
 
 abbrev pub rule_words : Rule → List ℕ
 rule_words b = word_of_head b.switches (length b.acts) b.start ∷ act_words b.acts

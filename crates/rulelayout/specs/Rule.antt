@@ -1,6 +1,6 @@
 -- What a rule book says: how many switches there are, which are on at the start, and for each action the switches that must
 -- be on and off where it is offered, and its outcomes in order. A mask has the bit k for the switch k.
-use Rattle.std.specs.Prelude.{ℕ, ◌+◌, ◌^◌, Bool, false, ◌&&◌, List, [], ◌∷◌, length, ◌==◌, bit_and, nat_lt, sum_by}
+use Rattle.std.specs.Prelude.{ℕ, ◌^◌, Bool, false, ◌&&◌, List, [], ◌∷◌, length, ◌==◌, bit_and, nat_lt, sum_by}
 use Rattle.words.specs.Tests.{all, within}
 use Rattle.rulelayout.specs.declared.Effect.{Effect}
 

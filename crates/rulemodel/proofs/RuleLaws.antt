@@ -7,30 +7,28 @@ use Rattle.std.proofs.lemmas.Bool.{and_parts, and_from, cases_order, cond_both, 
 use Rattle.model.specs.declared.Outcome.{Outcome}
 use Rattle.model.specs.Models.{Lawful, Ground, NumberedBy, total as weights}
 use Rattle.words.specs.Tests.{all, within}
-use Rattle.words.proofs.Tests.{all_at, within_parts}
+use Rattle.words.proofs.Tests.{all_at}
 use Rattle.rulelayout.specs.declared.Effect.{Effect}
-use Rattle.rulelayout.specs.Rule.{Act, Rule, valid, total, in_range, fits, good_effect, good_act, good_head, waits}
+use Rattle.rulelayout.specs.Rule.{Act, Rule, valid, total, good_effect, good_act, good_head, waits}
+use Rattle.rulelayout.proofs.OneWord.{head_parts, range_parts, fits_parts, count_parts}
+use Rattle.rulelayout.proofs.Faithful.{act_parts}
 use Rattle.rulemodel.specs.Meaning.{landing, landings, met, no_act, act_at, is_switch_mask, offers, rule_model}
 use Rattle.rulemodel.proofs.Gathering.{targets_kept, total_onto, length-onto, some_landings, all_landings}
 
 -- what a valid book's parts come to
 
+head_good : (b : Rule) → valid b ≡ true → good_head b.switches (length b.acts) b.start ≡ true
+head_good b v = (and_parts (good_head b.switches (length b.acts) b.start) _ v).0
+
 pub switches_few : (b : Rule) → valid b ≡ true → (1 ≤ b.switches) × (b.switches ≤ 10)
-switches_few b v =
-    let head = (and_parts (good_head b.switches (length b.acts) b.start) _ v).0 in
-    within_parts 1 10 b.switches (and_parts (within 1 10 b.switches) _ head).0
+switches_few b v = let parts = head_parts b.switches (length b.acts) b.start (head_good b v) in (parts.0, parts.1)
 
 pub actions_few : (b : Rule) → valid b ≡ true → (1 ≤ length b.acts) × (length b.acts ≤ 8)
-actions_few b v =
-    let head = (and_parts (good_head b.switches (length b.acts) b.start) _ v).0 in
-    let rest = (and_parts (within 1 10 b.switches) _ head).1 in
-    within_parts 1 8 (length b.acts) (and_parts (within 1 8 (length b.acts)) _ rest).0
+actions_few b v = let parts = head_parts b.switches (length b.acts) b.start (head_good b v) in (parts.2, parts.3)
 
 start_state : (b : Rule) → valid b ≡ true → is_switch_mask b b.start ≡ true
 start_state b v =
-    let head = (and_parts (good_head b.switches (length b.acts) b.start) _ v).0 in
-    let rest = (and_parts (within 1 10 b.switches) _ head).1 in
-    (and_parts (within 1 8 (length b.acts)) _ rest).1
+    (and_parts (within 1 8 (length b.acts)) _ (and_parts (within 1 10 b.switches) _ (head_good b v)).1).1
 
 act_good : (b : Rule) → valid b ≡ true → (a : ℕ) → a < length b.acts → good_act b.switches (act_at b a) ≡ true
 act_good b v a h =
@@ -52,14 +50,12 @@ pub record Good (n : ℕ) (es : List Effect) : Type 0 where
 
 good_parts : (n : ℕ) (a : Act) → good_act n a ≡ true → Good n a.effects
 good_parts n a g =
-    let needs = and_parts (fits n a.on a.off (length a.effects)) _ g in
-    let range = (and_parts (in_range n a.on a.off (length a.effects)) _ needs.0).0 in
-    let count = within_parts 1 8 (length a.effects) (and_parts (ltb a.off (2 ^ n)) _ (and_parts (ltb a.on (2 ^ n)) _ range).1).1 in
-    let rest = and_parts (all (good_effect n) a.effects) (eqb (total a.effects) 8) needs.1 in
-    record { some = count.0; few = count.1; each = rest.0; whole = eqb-true (total a.effects) 8 rest.1 }
+    let parts = act_parts n a g in
+    let count = count_parts n a.on a.off (length a.effects) parts.0 in
+    record { some = count.0; few = count.1; each = parts.1; whole = parts.2 }
 
-pub act_parts : (b : Rule) → valid b ≡ true → (s a : ℕ) → offers b s a ≡ true → Good b.switches (act_at b a).effects
-act_parts b v s a o =
+pub offered_parts : (b : Rule) → valid b ≡ true → (s a : ℕ) → offers b s a ≡ true → Good b.switches (act_at b a).effects
+offered_parts b v s a o =
     let here = (and_parts (ltb a (length b.acts)) _ (and_parts (is_switch_mask b s) _ o).1).0 in
     good_parts b.switches (act_at b a) (act_good b v a (ltb-true a (length b.acts) here))
 
@@ -67,10 +63,8 @@ act_parts b v s a o =
 
 effect_parts : (n : ℕ) (e : Effect) → good_effect n e ≡ true → (e.set < 2 ^ n) × (e.clear < 2 ^ n) × (1 ≤ e.weight)
 effect_parts n e g =
-    let range = (and_parts (in_range n e.set e.clear e.weight) _ g).0 in
-    let first = and_parts (ltb e.set (2 ^ n)) _ range in
-    let second = and_parts (ltb e.clear (2 ^ n)) _ first.1 in
-    (ltb-true e.set (2 ^ n) first.0, ltb-true e.clear (2 ^ n) second.0, (within_parts 1 8 e.weight second.1).0)
+    let range = range_parts n e.set e.clear e.weight (fits_parts n e.set e.clear e.weight g).0 in
+    (ltb-true e.set (2 ^ n) range.0, ltb-true e.clear (2 ^ n) range.1, range.2)
 
 lands_within : (n s : ℕ) (e : Effect) → s < 2 ^ n → good_effect n e ≡ true → landing s e < 2 ^ n
 lands_within n s e h g =
@@ -150,18 +144,18 @@ rule_lawful b v = record {
   some =
       λ s a o.
       subst (λ (os : List Outcome). 1 ≤ length os) (sym (cond-true (offers b s a) (landings s (act_at b a).effects) [] o))
-      (some_landings s (act_at b a).effects (act_parts b v s a o).some);
+      (some_landings s (act_at b a).effects (offered_parts b v s a o).some);
   few =
       λ s a.
       outcomes_both b s a (λ (os : List Outcome). length os ≤ 8)
-      (λ o. omega (arith, (length-onto s [] (act_at b a).effects).1, (act_parts b v s a o).few))
+      (λ o. omega (arith, (length-onto s [] (act_at b a).effects).1, (offered_parts b v s a o).few))
       (omega arith);
   targets =
       λ s a j d.
       outcomes_both b s a (λ (os : List Outcome). j < length os → is_switch_mask b (get_or os j d).target ≡ true)
       (λ o h.
       all_at (λ (w : Outcome). ltb w.target (2 ^ b.switches)) (landings s (act_at b a).effects) j d
-      (targets_within b.switches s (act_at b a).effects (offered_state b s a o) (act_parts b v s a o).each)
+      (targets_within b.switches s (act_at b a).effects (offered_state b s a o) (offered_parts b v s a o).each)
       h)
       (λ h. absurd (omega arith));
   apart =
@@ -176,7 +170,7 @@ rule_lawful b v = record {
       (λ o h.
       leb-true 1 _
       (all_at (λ (w : Outcome). leb 1 w.weight) (landings s (act_at b a).effects) j d
-      (weights_some b.switches s (act_at b a).effects (act_parts b v s a o).each)
+      (weights_some b.switches s (act_at b a).effects (offered_parts b v s a o).each)
       h))
       (λ h. absurd (omega arith));
   whole =
@@ -184,7 +178,7 @@ rule_lawful b v = record {
       ap weights (cond-true (offers b s a) (landings s (act_at b a).effects) [] o)
       ∙ total_onto s [] (act_at b a).effects
       ∙ zero-add (total (act_at b a).effects)
-      ∙ (act_parts b v s a o).whole;
+      ∙ (offered_parts b v s a o).whole;
   labelled = below_all b;
   narrow = omega (arith, (switches_few b v).1);
   bounded = λ s. omega arith;

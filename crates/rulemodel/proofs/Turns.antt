@@ -1,13 +1,14 @@
 -- One turn of gathering.
-use Rattle.std.proofs.Common.{◌≡◌, ℕ, ◌+◌, ◌<◌, ◌≤◌, leb, List, [], ◌∷◌, ◌++◌, length, get_or, take, refl, ap, ◌∙◌, arith}
-use Rattle.std.proofs.lemmas.List.{length-take-le, take_more}
+use Rattle.std.proofs.Common.{◌≡◌, ℕ, ◌+◌, ◌<◌, ◌≤◌, List, [], ◌∷◌, ◌++◌, length, get_or, take, set, cond, eqb, inl, inr, sym, refl, ap, ◌∙◌, arith}
+use Rattle.std.proofs.lemmas.Bool.{cases_eq, cond-true, cond-false, eq-eqb, ne_eqb}
+use Rattle.std.proofs.lemmas.Grind.{get_or-set_at}
+use Rattle.std.proofs.lemmas.List.{get_or-set_other, length-set, length-take-le, take_more}
 use Rattle.std.proofs.lemmas.List.Sums.{sum_by_push, sum_by-take-le}
-use Rattle.std.proofs.lemmas.Bool.{and_from, cond-true, le-leb}
 use Rattle.model.specs.Models.{total as weights}
 use Rattle.model.specs.declared.Outcome.{Outcome}
 use Rattle.rulelayout.specs.declared.Effect.{Effect}
 use Rattle.rulelayout.specs.Rule.{total}
-use Rattle.rulemodel.specs.Meaning.{landing, added, landings_onto, landings, outcomes_from}
+use Rattle.rulemodel.specs.Meaning.{landing, added, landings_onto, landings}
 use Rattle.rulemodel.proofs.Gathering.{total_onto, length-onto}
 
 onto-push : (s : ℕ) (os : List Outcome) (es : List Effect) (e : Effect) → landings_onto s os (es ++ (e ∷ [])) ≡ added (landings_onto s os es) (landing s e) e.weight
@@ -27,5 +28,12 @@ module _ (s : ℕ) (es : List Effect) (i : ℕ) (d : Effect) (here : i < length 
   light_yet =
       omega (arith, total_onto s [] (take i es), ap total (take_more es i d here), sum_by_push (λ (e : Effect). e.weight) (take i es) (get_or es i d), sum_by-take-le (λ (e : Effect). e.weight) es (i + 1))
 
-pub all_light : (s : ℕ) (es : List Effect) → length es ≤ 8 → total es ≤ 8 → outcomes_from s es ≡ landings s es
-all_light s es h k = cond-true _ (landings s es) [] (and_from (leb (length es) 8) (leb (total es) 8) (le-leb (length es) 8 h) (le-leb (total es) 8 k))
+-- one element more of a list with another element at a place
+pub set_more : {X : Type 0} (xs : List X) (i p : ℕ) (x d : X) → i < length xs → take (i + 1) (set xs p x) ≡ take i (set xs p x) ++ (cond (eqb i p) x (get_or xs i d) ∷ [])
+set_more xs i p x d h =
+    take_more (set xs p x) i d (omega (arith, length-set xs p x))
+    ∙ ap (λ y. take i (set xs p x) ++ (y ∷ []))
+    (elim (cases_eq i p) [
+      | inl e ↦ get_or-set_at xs p i x d e (omega arith) ∙ sym (cond-true (eqb i p) x (get_or xs i d) (eq-eqb i p e))
+      | inr ne ↦ get_or-set_other xs p i x d ne ∙ sym (cond-false (eqb i p) x (get_or xs i d) (ne_eqb i p ne))
+    ])
