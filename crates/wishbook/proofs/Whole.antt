@@ -1,5 +1,5 @@
 -- From what was gathered to the book: the items, that the book is what its words come to, and what the reader answers.
-use Rattle.std.proofs.Common.{◌≡◌, ℕ, ◌<◌, ◌≤◌, true, cond, ltb, leb, List, [], ◌∷◌, map, length, get_or, take, Some, None, Ok, Err, Option, Result, sym, refl, ap, ◌∙◌, subst, inl, inr, arith}
+use Rattle.std.proofs.Common.{◌≡◌, ℕ, ◌<◌, ◌≤◌, true, cond, ltb, leb, List, [], ◌∷◌, map, length, get_or, take, Some, None, Ok, Err, Option, Result, sym, refl, ap, ◌∙◌, subst, inl, inr, arith, rules}
 use Rattle.formula.specs.declared.Node.{Node}
 use Rattle.formula.specs.Formulas.{earlier}
 use Rattle.formula.specs.Items.{kept_items}
@@ -23,7 +23,6 @@ use Rattle.refusal.specs.declared.Refusal.{Refusal}
 use Rattle.wishbook.specs.declared.book.WishBook.{WishBook}
 use Rattle.wishbook.specs.declared.gathered.Gathered.{Gathered}
 use Rattle.wishbook.specs.Gathering.{draft_of}
-use Rattle.wishbook.proofs.Stepping.{none_noding, some_wishing}
 use Rattle.wishbook.specs.Book.{renamed, book_of, sound, items_over, meant, SameWishes}
 use Rattle.wishbook.specs.Contents.{contents}
 
@@ -96,12 +95,12 @@ module _ (g : Gathered) where
   -- an end word comes only after a wish
   pub unwished : (s : Draft) → length (listed g.wishes) ≡ 0 → draft_of g ≡ s → Finished Means (whole_book s) (Err WrongKind)
   unfolding whole_book
-  unwished s z f = subst (λ s. Finished Means (whole_book s) (Err WrongKind)) (sym (none_noding (listed g.nodes) (listed g.wishes) z) ∙ f) refl
+  unwished s z f = search rules
 
   wished : (s : Draft) (answer : Result WishBook Refusal) → (length (listed g.wishes) ≡ 0 → ⊥) → draft_of g ≡ s
       → Finished Means (cond (leb (length (items_for (listed g.nodes) (listed g.wishes))) 16) (Ok (record { nodes = listed g.nodes; wishes = listed g.wishes })) (Err TooManyItems)) answer → Finished Means (whole_book s) answer
   unfolding whole_book
-  wished s answer some f told = subst (λ s. Finished Means (whole_book s) answer) (sym (some_wishing (listed g.nodes) (listed g.wishes) some) ∙ f) told
+  wished s answer some f told = search rules
 
   pub overfull : (s : Draft) (nodes : List Node) (wishes : List Wish) → (length (listed g.wishes) ≡ 0 → ⊥) → draft_of g ≡ s → nodes ≡ nodes_of (listed g.nodes) → wishes ≡ map (renamed (numbers_of (listed g.nodes))) (listed g.wishes)
       → 16 < length (items_over nodes wishes) → Finished Means (whole_book s) (Err TooManyItems)
