@@ -1,25 +1,21 @@
 -- The bits of a memory and of a mask, one by one.
-use Rattle.std.proofs.Common.{◌≡◌, ℕ, zero, suc, ◌+◌, ◌*◌, ◌/◌, ◌%◌, ◌^◌, ◌<◌, Bool, true, false, not, eqb, List, [], ◌∷◌, map, length, get_or, sym, ap, ◌∙◌, subst, mul_comm, add_comm, arith, pow_pos}
+use Rattle.std.proofs.Common.{◌≡◌, ℕ, zero, suc, ◌+◌, ◌*◌, ◌/◌, ◌%◌, ◌^◌, ◌<◌, Bool, true, false, eqb, List, [], ◌∷◌, map, length, get_or, sym, ap, ◌∙◌, subst, mul_comm, add_comm, arith, pow_pos}
 use native.Mathlib.Nat.{div-eq_of_lt}
 use Rattle.std.specs.List.{ContainsAt as Has}
 use Rattle.std.proofs.lemmas.Nat.{shr-shr, shr_high}
 use Rattle.std.proofs.ByRecursion.{has_get_or}
 use Rattle.std.proofs.lemmas.List.{get_or-map}
 use Rattle.std.proofs.lemmas.Bool.{eq-eqb, and_parts, ltb-true}
-use Rattle.formula.specs.declared.Item.{Item}
-use Rattle.formula.specs.declared.Item.TheVariants.{Held, Failed}
+use Rattle.formula.specs.declared.Item.TheVariants.{Held}
 use Rattle.formula.specs.Formulas.{truth, formulas, earlier}
-use Rattle.formula.specs.Resting.{resting}
-use Rattle.formula.proofs.Chosen.{selected}
 use Rattle.formula.proofs.Trees.{length-formulas}
 use Rattle.truth.specs.Truth.{labelled, holds}
 use Rattle.words.specs.Tests.{all}
 use Rattle.words.proofs.Tests.{all_at}
-use Rattle.wishbook.specs.Book.{items_over}
-use Rattle.wishlayout.specs.declared.Wish.{Wish}
 use Rattle.wishlayout.specs.Wishes.{good_wish}
-use Rattle.layer.specs.Judging.{bit, memory_of, bits_of_wishes}
-use Rattle.layer.specs.Records.{trace_of, end_of, truths, tells, MemoryTells, WishesShow}
+use Rattle.layer.specs.Judging.{bit, bits_of, item_held, wish_held, bits_of_wishes}
+use Rattle.layer.proofs.Verdicts.{item_told}
+use Rattle.layer.specs.Records.{trace_of, end_of, truths, MemoryTells, WishesShow}
 
 low : (b : Bool) (m : ℕ) → labelled (bit b + 2 * m) 0 ≡ b
 low true m = eq-eqb ((1 + 2 * m) / 1 % 2) 1 (omega arith)
@@ -38,20 +34,14 @@ higher b m k =
     one_more : (k : ℕ) → suc k ≡ 1 + k
     one_more k = omega arith
 
--- what an item's bit says, from verdicts
-abbrev said : Item → List Bool → Bool
-said (Held i) vs = get_or vs i false
-said (Failed i) vs = not (get_or vs i false)
-
 zero_div : (k : ℕ) → 0 / 2 ^ k ≡ 0
 zero_div k = div-eq_of_lt (pow_pos k)
 
-memory_bit : (items : List Item) (vs : List Bool) (k : ℕ) → k < length items → labelled (memory_of items vs) k ≡ said (get_or items k (Held 0)) vs
-memory_bit [] vs k l = absurd (omega arith)
-memory_bit (Held i ∷ items) vs zero l = low (get_or vs i false) (memory_of items vs)
-memory_bit (Failed i ∷ items) vs zero l = low (not (get_or vs i false)) (memory_of items vs)
-memory_bit (Held i ∷ items) vs (suc k) l = higher (get_or vs i false) (memory_of items vs) k ∙ memory_bit items vs k (omega arith)
-memory_bit (Failed i ∷ items) vs (suc k) l = higher (not (get_or vs i false)) (memory_of items vs) k ∙ memory_bit items vs k (omega arith)
+-- bit k of a number from bits is that of x number k
+bits_bit : {X : Type 0} (holds : X → Bool) (xs : List X) (k : ℕ) (d : X) → k < length xs → labelled (bits_of holds xs) k ≡ holds (get_or xs k d)
+bits_bit holds [] k d l = absurd (omega arith)
+bits_bit holds (x ∷ xs) zero d l = low (holds x) (bits_of holds xs)
+bits_bit holds (x ∷ xs) (suc k) d l = higher (holds x) (bits_of holds xs) k ∙ bits_bit holds xs k d (omega arith)
 
 empty_bit : (k : ℕ) → labelled 0 k ≡ false
 empty_bit k = ap (λ x. eqb (x % 2) 1) (zero_div k)
@@ -59,20 +49,8 @@ empty_bit k = ap (λ x. eqb (x % 2) 1) (zero_div k)
 pub memory_tells : MemoryTells
 memory_tells b ok τ zero k l = empty_bit k
 memory_tells b ok τ (suc n) k l =
-    memory_bit b.items (truths b.nodes τ n) k l
-    ∙ item_said (get_or b.items k (Held 0)) (subst (λ is. Has is (get_or b.items k (Held 0))) ok.remembers (has_get_or b.items k (Held 0) l))
-  where
-    told : (i : ℕ) → i < length b.nodes → get_or (truths b.nodes τ n) i false ≡ holds (get_or (formulas b.nodes) i truth) τ n
-    told i inside = get_or-map (λ f. holds f τ n) (formulas b.nodes) i truth false (omega (arith, length-formulas b.nodes))
-
-    item_said : (x : Item) → Has (items_over b.nodes b.wishes) x → said x (truths b.nodes τ n) ≡ tells b.nodes τ x n
-    item_said (Held i) has = told i ((selected b.nodes (resting b.nodes (map (λ w. w.node) b.wishes))).held_only i has).0
-    item_said (Failed i) has = ap not (told i ((selected b.nodes (resting b.nodes (map (λ w. w.node) b.wishes))).failed_only i has).0)
-
-wish_bit : (ws : List Wish) (vs : List Bool) (k : ℕ) (d : Wish) → k < length ws → labelled (bits_of_wishes ws vs) k ≡ get_or vs (get_or ws k d).node false
-wish_bit [] vs k d l = absurd (omega arith)
-wish_bit (w ∷ ws) vs zero d l = low (get_or vs w.node false) (bits_of_wishes ws vs)
-wish_bit (w ∷ ws) vs (suc k) d l = higher (get_or vs w.node false) (bits_of_wishes ws vs) k ∙ wish_bit ws vs k d (omega arith)
+    bits_bit (item_held (truths b.nodes τ n)) b.items k (Held 0) l
+    ∙ item_told b.nodes (map (λ w. w.node) b.wishes) (and_parts _ _ ok.names).0 τ n (get_or b.items k (Held 0)) (subst (λ is. Has is (get_or b.items k (Held 0))) ok.remembers (has_get_or b.items k (Held 0) l))
 
 above : (labels low_part high k : ℕ) → low_part < 2 ^ labels → labelled (low_part + 2 ^ labels * high) (labels + k) ≡ labelled high k
 above labels low_part high k small =
@@ -86,5 +64,5 @@ wishes_show b ok labels mask h k d small l =
     let good = all_at (good_wish (length b.nodes)) b.wishes k d parts.1 l in
     let inside = ltb-true (get_or b.wishes k d).node (length b.nodes) (and_parts _ _ good).0 in
     above labels (mask h) (bits_of_wishes b.wishes (truths b.nodes (trace_of mask h) (end_of h))) k small
-    ∙ wish_bit b.wishes (truths b.nodes (trace_of mask h) (end_of h)) k d l
+    ∙ bits_bit (wish_held (truths b.nodes (trace_of mask h) (end_of h))) b.wishes k d l
     ∙ get_or-map (λ f. holds f (trace_of mask h) (end_of h)) (formulas b.nodes) (get_or b.wishes k d).node truth false (omega (arith, length-formulas b.nodes))

@@ -1,45 +1,35 @@
--- One item or one wish more, from the last to the first or from the first to the last.
-use Rattle.std.proofs.Common.{◌≡◌, ℕ, ◌+◌, ◌-◌, ◌*◌, ◌^◌, ◌<◌, ◌≤◌, Bool, true, false, cond, List, ◌∷◌, length, get_or, drop, ℤ, pos, negsuc, ◌+ℤ◌, nat_abs, sym, refl, ap, ◌∙◌, subst, arith, w32, SFits, to_z, of_z}
-use Rattle.std.proofs.lemmas.List.{at_drop_more, at_drop_all, length-drop}
+-- One bit more, from the last x to the first; and one wish more, from the first to the last.
+use Rattle.std.proofs.Common.{◌≡◌, ℕ, ◌+◌, ◌*◌, ◌^◌, ◌<◌, ◌≤◌, Bool, true, false, cond, List, [], ◌∷◌, ◌++◌, length, get_or, drop, ℤ, pos, negsuc, ◌+ℤ◌, nat_abs, sym, refl, ap, ◌∙◌, subst, arith, w32, SFits, to_z, of_z}
+use Rattle.std.specs.List.{ContainsAt as Has}
+use Rattle.std.proofs.ByRecursion.{has_append_right}
+use Rattle.std.proofs.lemmas.List.{at_drop_more}
 use Rattle.std.proofs.lemmas.Int.{to_z-of_z}
-use Rattle.formula.specs.declared.Item.{Item}
-use Rattle.formula.specs.declared.Item.TheVariants.{Held, Failed}
 use Rattle.wishlayout.specs.declared.Wish.{Wish}
-use Rattle.layer.specs.Judging.{bit, memory_of, bits_of_wishes, amount, earned}
-use Rattle.layer.specs.Layering.{amounts}
-use Rattle.layer.specs.Tables.{item_held}
-use Rattle.layer.specs.Sizes.{memory_small, wish_bits_small, abs_add}
+use Rattle.layer.specs.Judging.{bit, bits_of, wish_held, amount, earned}
+use Rattle.layer.specs.Sizes.{abs_add}
 
-memory_first : (item : Item) (items : List Item) (vs : List Bool) → memory_of (item ∷ items) vs ≡ bit (item_held item vs) + 2 * memory_of items vs
-memory_first (Held i) items vs = refl
-memory_first (Failed i) items vs = refl
+-- a number from bits, with one for each x below those that there are
+abbrev pub bits_onto : {X : Type 0} → (X → Bool) → List X → ℕ → ℕ
+bits_onto holds [] bits = bits
+bits_onto holds (x ∷ xs) bits = bit (holds x) + 2 * bits_onto holds xs bits
 
--- the bit of the item before place i, below those from i on
-pub memory_more : (items : List Item) (vs : List Bool) (i : ℕ) (d : Item) → 0 < i → i ≤ length items → bit (item_held (get_or items (i - 1) d) vs) + 2 * memory_of (drop i items) vs ≡ memory_of (drop (i - 1) items) vs
-memory_more items vs i d some within =
-    let back : i - 1 + 1 ≡ i = omega arith in
-    ap (λ n. bit (item_held (get_or items (i - 1) d) vs) + 2 * memory_of (drop n items) vs) (sym back)
-    ∙ sym (memory_first (get_or items (i - 1) d) (drop (i - 1 + 1) items) vs)
-    ∙ sym (at_drop_more (λ l. memory_of l vs) items (i - 1) d (omega arith))
+onto_push : {X : Type 0} (holds : X → Bool) (xs : List X) (x : X) (bits : ℕ) → bits_onto holds (xs ++ x ∷ []) bits ≡ bits_onto holds xs (bit (holds x) + 2 * bits)
+onto_push holds [] x bits = refl
+onto_push holds (y ∷ xs) x bits = ap (λ n. bit (holds y) + 2 * n) (onto_push holds xs x bits)
 
-pub memory_end : (items : List Item) (vs : List Bool) (i : ℕ) → length items ≤ i → 0 ≡ memory_of (drop i items) vs
-memory_end items vs i past = sym (at_drop_all (λ l. memory_of l vs) items i past)
+-- one x less is left, and its bit is in
+pub onto_more : {X : Type 0} (holds : X → Bool) (left rest : List X) (x : X) (bits more whole : ℕ) (b : Bool) → left ≡ rest ++ x ∷ [] → more ≡ bit b + 2 * bits → b ≡ holds x → bits_onto holds left bits ≡ whole → bits_onto holds rest more ≡ whole
+onto_more holds left rest x bits more whole b last next is before =
+    ap (bits_onto holds rest) (next ∙ ap (λ t. bit t + 2 * bits) is) ∙ sym (onto_push holds rest x bits) ∙ ap (λ xs. bits_onto holds xs bits) (sym last) ∙ before
 
-pub memory_room : (items : List Item) (vs : List Bool) (i : ℕ) → length items ≤ 16 → memory_of (drop i items) vs < 2 ^ 32
-memory_room items vs i few = omega (arith, memory_small (drop i items) vs (omega (arith, length-drop i items)))
+pub onto_none : {X : Type 0} (holds : X → Bool) (xs : List X) → bits_onto holds xs 0 ≡ bits_of holds xs
+onto_none holds [] = refl
+onto_none holds (x ∷ xs) = ap (λ n. bit (holds x) + 2 * n) (onto_none holds xs)
 
--- the bit of the wish before place i, below those from i on
-pub wish_bits_more : (ws : List Wish) (vs : List Bool) (i : ℕ) (d : Wish) → 0 < i → i ≤ length ws → bit (get_or vs (get_or ws (i - 1) d).node false) + 2 * bits_of_wishes (drop i ws) vs ≡ bits_of_wishes (drop (i - 1) ws) vs
-wish_bits_more ws vs i d some within =
-    let back : i - 1 + 1 ≡ i = omega arith in
-    ap (λ n. bit (get_or vs (get_or ws (i - 1) d).node false) + 2 * bits_of_wishes (drop n ws) vs) (sym back)
-    ∙ sym (at_drop_more (λ l. bits_of_wishes l vs) ws (i - 1) d (omega arith))
-
-pub wish_bits_end : (ws : List Wish) (vs : List Bool) (i : ℕ) → length ws ≤ i → 0 ≡ bits_of_wishes (drop i ws) vs
-wish_bits_end ws vs i past = sym (at_drop_all (λ l. bits_of_wishes l vs) ws i past)
-
-pub wish_bits_room : (ws : List Wish) (vs : List Bool) (i : ℕ) → length ws ≤ 16 → bits_of_wishes (drop i ws) vs < 2 ^ 32
-wish_bits_room ws vs i few = omega (arith, wish_bits_small (drop i ws) vs (omega (arith, length-drop i ws)))
+-- equal bits make equal numbers
+pub bits_same : {X : Type 0} (f g : X → Bool) (xs : List X) → ((x : X) → Has xs x → f x ≡ g x) → bits_of f xs ≡ bits_of g xs
+bits_same f g [] h = refl
+bits_same f g (x ∷ xs) h = λ k. bit (h x (0, omega arith, λ d. refl) k) + 2 * bits_same f g xs (λ y has. h y (has_append_right (x ∷ []) xs y has)) k
 
 -- a sum of small numbers, in 32 bits
 pub small_fits : (z : ℤ) → nat_abs z < 2 ^ 31 → SFits w32 z
@@ -58,11 +48,8 @@ sum_is t a p q =
 abbrev pub Earning : ℤ → ℤ → List Wish → List Bool → ℕ → Type 0
 Earning sum t ws vs i = (earned t (drop i ws) vs ≡ earned sum ws vs) × (nat_abs t ≤ 2000 + 65536 * i)
 
-pub earning_fits : (sum t a : ℤ) (ws : List Wish) (vs : List Bool) (i : ℕ) → Earning sum t ws vs i → i < length ws → length ws ≤ 16 → nat_abs a < 65536 → SFits w32 (t +ℤ to_z w32 (of_z w32 a))
-earning_fits sum t a ws vs i (rest, bound) here few small = sum_fits t a (omega arith) small
-
 -- the next wish, where it holds and where it does not
-pub earning_more : (sum t u a : ℤ) (ws : List Wish) (vs : List Bool) (i : ℕ) (d : Wish) → Earning sum t ws vs i → i < length ws → length ws ≤ 16 → nat_abs a < 65536 → a ≡ amount (get_or ws i d) → u ≡ to_z w32 (of_z w32 (t +ℤ to_z w32 (of_z w32 a))) → get_or vs (get_or ws i d).node false ≡ true → Earning sum u ws vs (i + 1)
+pub earning_more : (sum t u a : ℤ) (ws : List Wish) (vs : List Bool) (i : ℕ) (d : Wish) → Earning sum t ws vs i → i < length ws → length ws ≤ 16 → nat_abs a < 65536 → a ≡ amount (get_or ws i d) → u ≡ to_z w32 (of_z w32 (t +ℤ to_z w32 (of_z w32 a))) → wish_held vs (get_or ws i d) ≡ true → Earning sum u ws vs (i + 1)
 earning_more sum t u a ws vs i d (rest, bound) here few small is sum-in holds =
     let next : u ≡ t +ℤ a = sum-in ∙ sum_is t a (omega arith) small in (
       ap (λ z. earned z (drop (i + 1) ws) vs) (next ∙ ap (λ z. t +ℤ z) is)
@@ -72,7 +59,7 @@ earning_more sum t u a ws vs i d (rest, bound) here few small is sum-in holds =
       omega (arith, ap nat_abs next, abs_add t a),
     )
 
-pub earning_past : (sum t u : ℤ) (ws : List Wish) (vs : List Bool) (i : ℕ) (d : Wish) → Earning sum t ws vs i → i < length ws → u ≡ t → get_or vs (get_or ws i d).node false ≡ false → Earning sum u ws vs (i + 1)
+pub earning_past : (sum t u : ℤ) (ws : List Wish) (vs : List Bool) (i : ℕ) (d : Wish) → Earning sum t ws vs i → i < length ws → u ≡ t → wish_held vs (get_or ws i d) ≡ false → Earning sum u ws vs (i + 1)
 earning_past sum t u ws vs i d (rest, bound) here same fails = (
   ap (λ z. earned z (drop (i + 1) ws) vs) same
       ∙ ap (λ b. earned (cond b (t +ℤ amount (get_or ws i d)) t) (drop (i + 1) ws) vs) (sym fails)
@@ -80,13 +67,3 @@ earning_past sum t u ws vs i d (rest, bound) here same fails = (
       ∙ rest,
   omega (arith, ap nat_abs same),
 )
-
-pub earned_end : (sum : ℤ) (ws : List Wish) (vs : List Bool) (i : ℕ) → length ws ≤ i → sum ≡ earned sum (drop i ws) vs
-earned_end sum ws vs i past = sym (at_drop_all (λ l. earned sum l vs) ws i past)
-
--- the next amount
-pub amounts_more : (ws : List Wish) (total i : ℕ) (d : Wish) → i < length ws → (total + nat_abs (amount (get_or ws i d))) + amounts (drop (i + 1) ws) ≡ total + amounts (drop i ws)
-amounts_more ws total i d here = let more : amounts (drop i ws) ≡ nat_abs (amount (get_or ws i d)) + amounts (drop (i + 1) ws) = at_drop_more amounts ws i d here in omega arith
-
-pub amounts_end : (ws : List Wish) (total i : ℕ) → length ws ≤ i → total ≡ total + amounts (drop i ws)
-amounts_end ws total i past = let none : amounts (drop i ws) ≡ 0 = at_drop_all amounts ws i past in omega arith

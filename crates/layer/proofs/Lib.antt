@@ -1,6 +1,5 @@
 pub mod Recalling
 pub mod Verdicts
-pub mod Entering
 pub mod Counting
 pub mod Refusing
 pub mod Unfolds

@@ -1,11 +1,28 @@
--- What a memory recalls: the bit of a held item is the verdict that was remembered, the bit of a failed one its negation, and an
--- empty memory recalls nothing.
-use Rattle.std.proofs.Common.{◌≡◌, ℕ, zero, suc, ◌+◌, ◌*◌, ◌/◌, ◌%◌, Bool, true, false, not, ◌&&◌, ◌||◌, eqb, ◌⊎◌, List, [], ◌∷◌, get_or, sym, refl, ap, ◌∙◌, inl, inr, arith}
+-- What a memory recalls: of its items, what was remembered of each; and nothing else. An empty memory recalls nothing.
+use Rattle.std.proofs.Common.{◌≡◌, ℕ, zero, suc, ◌+◌, ◌*◌, ◌/◌, ◌%◌, ◌<◌, ◌≤◌, Bool, true, false, ◌&&◌, ◌||◌, eqb, List, [], ◌∷◌, map, length, sym, refl, ap, ◌∙◌, subst, inl, inr, arith}
 use Rattle.std.specs.List.{ContainsAt as Has}
-use Rattle.std.proofs.lemmas.Bool.{cases_Bool, both_ways, and_parts, and_from, or_cases, or_left, or_right, eqb-true, eq-eqb, not-true, not_from_false}
+use Rattle.std.proofs.ByRecursion.{has_append_right}
+use Rattle.std.proofs.lemmas.List.{get_or_past}
+use Rattle.std.proofs.lemmas.Bool.{cases_Bool, cases_lt, both_ways, and_parts, and_from, or_cases, or_left, or_right, eqb-true, eq-eqb}
 use Rattle.formula.specs.declared.Item.{Item}
 use Rattle.formula.specs.declared.Item.TheVariants.{Held, Failed}
-use Rattle.layer.specs.Judging.{held_in, failed_in, bit, memory_of}
+use Rattle.formula.specs.Resting.{resting}
+use Rattle.formula.proofs.Chosen.{selected}
+use Rattle.wishbook.specs.Book.{Book}
+use Rattle.layer.specs.declared.recalled.Recalled.{Recalled}
+use Rattle.layer.specs.Judging.{node_of, same_item, recalled, bit, item_held, memory_of}
+use Rattle.layer.specs.Records.{SoundBook}
+use Rattle.layer.specs.Tables.{told}
+
+same_is : (x y : Item) → same_item x y ≡ true → x ≡ y
+same_is (Held i) (Held j) e = ap Held (eqb-true i j e)
+same_is (Held i) (Failed j) e = absurd (both_ways false refl e)
+same_is (Failed i) (Held j) e = absurd (both_ways false refl e)
+same_is (Failed i) (Failed j) e = ap Failed (eqb-true i j e)
+
+same_self : (x : Item) → same_item x x ≡ true
+same_self (Held i) = eq-eqb i i refl
+same_self (Failed i) = eq-eqb i i refl
 
 low_bit : (b : Bool) (m : ℕ) → eqb ((bit b + 2 * m) % 2) 1 ≡ b
 low_bit true m = eq-eqb ((1 + 2 * m) % 2) 1 (omega arith)
@@ -15,116 +32,69 @@ high_bits : (b : Bool) (m : ℕ) → (bit b + 2 * m) / 2 ≡ m
 high_bits true m = omega arith
 high_bits false m = omega arith
 
-first_or_later : (x : Item) (xs : List Item) (y : Item) → Has (x ∷ xs) y → (x ≡ y) ⊎ Has xs y
-first_or_later x xs y (zero, l, at) = inl (at x)
-first_or_later x xs y (suc k, l, at) = inr (k, omega arith, at)
-
-held_is : (i j : ℕ) → Held i ≡ Held j → i ≡ j
-held_is i j e = cc
-
-failed_is : (i j : ℕ) → Failed i ≡ Failed j → i ≡ j
-failed_is i j e = cc
-
-apart_items : (i j : ℕ) → Held i ≡ Failed j → ⊥
-apart_items i j e = let z : ◌≡◌ {A = ℕ} 0 1 = cc in omega arith
-
--- the step of both bits
-held_step : (j : ℕ) (items : List Item) (vs : List Bool) (i : ℕ) → held_in (Held j ∷ items) (memory_of (Held j ∷ items) vs) i ≡ ((eqb i j && get_or vs j false) || held_in items (memory_of items vs) i)
-held_step j items vs i = λ k. (eqb i j && low_bit (get_or vs j false) (memory_of items vs) k) || held_in items (high_bits (get_or vs j false) (memory_of items vs) k) i
-
-held_pass : (j : ℕ) (items : List Item) (vs : List Bool) (i : ℕ) → held_in (Failed j ∷ items) (memory_of (Failed j ∷ items) vs) i ≡ held_in items (memory_of items vs) i
-held_pass j items vs i = ap (λ m. held_in items m i) (high_bits (not (get_or vs j false)) (memory_of items vs))
-
-failed_step : (j : ℕ) (items : List Item) (vs : List Bool) (i : ℕ) → failed_in (Failed j ∷ items) (memory_of (Failed j ∷ items) vs) i ≡ ((eqb i j && not (get_or vs j false)) || failed_in items (memory_of items vs) i)
-failed_step j items vs i = λ k. (eqb i j && low_bit (not (get_or vs j false)) (memory_of items vs) k) || failed_in items (high_bits (not (get_or vs j false)) (memory_of items vs) k) i
-
-failed_pass : (j : ℕ) (items : List Item) (vs : List Bool) (i : ℕ) → failed_in (Held j ∷ items) (memory_of (Held j ∷ items) vs) i ≡ failed_in items (memory_of items vs) i
-failed_pass j items vs i = ap (λ m. failed_in items m i) (high_bits (get_or vs j false) (memory_of items vs))
-
-held_only_there : (items : List Item) (vs : List Bool) (i : ℕ) → held_in items (memory_of items vs) i ≡ true → get_or vs i false ≡ true
-held_only_there [] vs i h = absurd (both_ways false refl h)
-held_only_there (Held j ∷ items) vs i h =
-    elim (or_cases (eqb i j && get_or vs j false) (held_in items (memory_of items vs) i) (sym (held_step j items vs i) ∙ h)) [
-      | inl e ↦ let parts = and_parts (eqb i j) (get_or vs j false) e in ap (λ k. get_or vs k false) (eqb-true i j parts.0) ∙ parts.1
-      | inr e ↦ held_only_there items vs i e
-    ]
-held_only_there (Failed j ∷ items) vs i h = held_only_there items vs i (sym (held_pass j items vs i) ∙ h)
-
-held_there : (items : List Item) (vs : List Bool) (i : ℕ) → Has items (Held i) → get_or vs i false ≡ true → held_in items (memory_of items vs) i ≡ true
-held_there [] vs i (k, l, at) e = absurd (omega arith)
-held_there (Held j ∷ items) vs i has e =
-    held_step j items vs i ∙
-    elim (first_or_later (Held j) items (Held i) has) [
-      | inl same ↦
-          let is = held_is j i same in
-          or_left (eqb i j && get_or vs j false) (held_in items (memory_of items vs) i) (and_from (eqb i j) (get_or vs j false) (eq-eqb i j (sym is)) (ap (λ k. get_or vs k false) is ∙ e))
-      | inr later ↦ or_right (eqb i j && get_or vs j false) (held_in items (memory_of items vs) i) (held_there items vs i later e)
-    ]
-held_there (Failed j ∷ items) vs i has e =
-    elim (first_or_later (Failed j) items (Held i) has) [
-      | inl same ↦ absurd (apart_items i j (sym same))
-      | inr later ↦ held_pass j items vs i ∙ held_there items vs i later e
+-- only items are recalled
+recalled_has : (items : List Item) (m : ℕ) (x : Item) → recalled items m x ≡ true → Has items x
+recalled_has [] m x e = absurd (both_ways false refl e)
+recalled_has (y ∷ items) m x e =
+    elim (or_cases (same_item x y && eqb (m % 2) 1) (recalled items (m / 2) x) e) [
+      | inl here ↦ (0, omega arith, λ d. sym (same_is x y (and_parts (same_item x y) (eqb (m % 2) 1) here).0))
+      | inr later ↦ has_append_right (y ∷ []) items x (recalled_has items (m / 2) x later)
     ]
 
-failed_only_there : (items : List Item) (vs : List Bool) (i : ℕ) → failed_in items (memory_of items vs) i ≡ true → get_or vs i false ≡ false
-failed_only_there [] vs i h = absurd (both_ways false refl h)
-failed_only_there (Failed j ∷ items) vs i h =
-    elim (or_cases (eqb i j && not (get_or vs j false)) (failed_in items (memory_of items vs) i) (sym (failed_step j items vs i) ∙ h)) [
-      | inl e ↦ let parts = and_parts (eqb i j) (not (get_or vs j false)) e in ap (λ k. get_or vs k false) (eqb-true i j parts.0) ∙ not-true (get_or vs j false) parts.1
-      | inr e ↦ failed_only_there items vs i e
-    ]
-failed_only_there (Held j ∷ items) vs i h = failed_only_there items vs i (sym (failed_pass j items vs i) ∙ h)
+module _ (vs : List Bool) where
+  step : (y : Item) (items : List Item) (x : Item) → recalled (y ∷ items) (memory_of (y ∷ items) vs) x ≡ ((same_item x y && item_held vs y) || recalled items (memory_of items vs) x)
+  step y items x = λ k. (same_item x y && low_bit (item_held vs y) (memory_of items vs) k) || recalled items (high_bits (item_held vs y) (memory_of items vs) k) x
 
-failed_there : (items : List Item) (vs : List Bool) (i : ℕ) → Has items (Failed i) → get_or vs i false ≡ false → failed_in items (memory_of items vs) i ≡ true
-failed_there [] vs i (k, l, at) e = absurd (omega arith)
-failed_there (Failed j ∷ items) vs i has e =
-    failed_step j items vs i ∙
-    elim (first_or_later (Failed j) items (Failed i) has) [
-      | inl same ↦
-          let is = failed_is j i same in
-          or_left (eqb i j && not (get_or vs j false)) (failed_in items (memory_of items vs) i) (and_from (eqb i j) (not (get_or vs j false)) (eq-eqb i j (sym is)) (not_from_false (get_or vs j false) (ap (λ k. get_or vs k false) is ∙ e)))
-      | inr later ↦ or_right (eqb i j && not (get_or vs j false)) (failed_in items (memory_of items vs) i) (failed_there items vs i later e)
-    ]
-failed_there (Held j ∷ items) vs i has e =
-    elim (first_or_later (Held j) items (Failed i) has) [
-      | inl same ↦ absurd (apart_items j i same)
-      | inr later ↦ failed_pass j items vs i ∙ failed_there items vs i later e
-    ]
-
--- the bit of a held item is the verdict on its node
-pub held_recalls : (items : List Item) (vs : List Bool) (i : ℕ) → Has items (Held i) → held_in items (memory_of items vs) i ≡ get_or vs i false
-held_recalls items vs i has =
-    elim (cases_Bool (get_or vs i false)) [
-      | inl e ↦ held_there items vs i has e ∙ sym e
-      | inr e ↦ elim (cases_Bool (held_in items (memory_of items vs) i)) [
-        | inl t ↦ absurd (both_ways (get_or vs i false) e (held_only_there items vs i t))
-        | inr t ↦ t ∙ sym e
+  only_there : (items : List Item) (x : Item) → recalled items (memory_of items vs) x ≡ true → item_held vs x ≡ true
+  only_there [] x e = absurd (both_ways false refl e)
+  only_there (y ∷ items) x e =
+      elim (or_cases (same_item x y && item_held vs y) (recalled items (memory_of items vs) x) (sym (step y items x) ∙ e)) [
+        | inl here ↦ let parts = and_parts (same_item x y) (item_held vs y) here in ap (item_held vs) (same_is x y parts.0) ∙ parts.1
+        | inr later ↦ only_there items x later
       ]
-    ]
 
--- the bit of a failed item is the verdict's negation
-pub failed_recalls : (items : List Item) (vs : List Bool) (i : ℕ) → Has items (Failed i) → failed_in items (memory_of items vs) i ≡ not (get_or vs i false)
-failed_recalls items vs i has =
-    elim (cases_Bool (get_or vs i false)) [
-      | inl e ↦ elim (cases_Bool (failed_in items (memory_of items vs) i)) [
-        | inl t ↦ absurd (both_ways (get_or vs i false) (failed_only_there items vs i t) e)
-        | inr t ↦ t ∙ ap not (sym e)
+  there : (items : List Item) (x : Item) → Has items x → item_held vs x ≡ true → recalled items (memory_of items vs) x ≡ true
+  there [] x (k, l, at) e = absurd (omega arith)
+  there (y ∷ items) x (zero, l, at) e =
+      step y items x
+      ∙ or_left (same_item x y && item_held vs y) (recalled items (memory_of items vs) x)
+      (and_from (same_item x y) (item_held vs y) (subst (λ z. same_item x z ≡ true) (sym (at x)) (same_self x)) (ap (item_held vs) (at x) ∙ e))
+  there (y ∷ items) x (suc k, l, at) e =
+      step y items x ∙ or_right (same_item x y && item_held vs y) (recalled items (memory_of items vs) x) (there items x (k, omega arith, at) e)
+
+  -- of an item, what was remembered of it
+  pub item_recalls : (items : List Item) (x : Item) → Has items x → recalled items (memory_of items vs) x ≡ item_held vs x
+  item_recalls items x has =
+      elim (cases_Bool (item_held vs x)) [
+        | inl e ↦ there items x has e ∙ sym e
+        | inr e ↦ elim (cases_Bool (recalled items (memory_of items vs) x)) [
+          | inl t ↦ absurd (both_ways (item_held vs x) e (only_there items x t))
+          | inr t ↦ t ∙ sym e
+        ]
       ]
-      | inr e ↦ failed_there items vs i has e ∙ ap not (sym e)
-    ]
 
--- an empty memory recalls nothing
+pub recalled_empty : (items : List Item) (x : Item) → recalled items 0 x ≡ false
+recalled_empty [] x = refl
+recalled_empty (y ∷ items) x = λ k. and_none (same_item x y) k || recalled_empty items x k
+  where
+    and_none : (b : Bool) → (b && false) ≡ false
+    and_none true = refl
+    and_none false = refl
 
-and_none : (b : Bool) → (b && false) ≡ false
-and_none true = refl
-and_none false = refl
+-- a sound book of at most 128 nodes
+module _ (b : Book) (ok : SoundBook b) (few : length b.nodes ≤ 128) (m : ℕ) where
+  item_below : (x : Item) → Has b.items x → node_of x < 128
+  item_below (Held i) has = omega (arith, ((selected b.nodes (resting b.nodes (map (λ w. w.node) b.wishes))).held_only i (subst (λ xs. Has xs (Held i)) ok.remembers has)).0)
+  item_below (Failed i) has = omega (arith, ((selected b.nodes (resting b.nodes (map (λ w. w.node) b.wishes))).failed_only i (subst (λ xs. Has xs (Failed i)) ok.remembers has)).0)
 
-pub held_empty : (items : List Item) (i : ℕ) → held_in items 0 i ≡ false
-held_empty [] i = refl
-held_empty (Held j ∷ items) i = λ k. and_none (eqb i j) k || held_empty items i k
-held_empty (Failed j ∷ items) i = held_empty items i
+  past : (x : Item) → 128 ≤ node_of x → false ≡ recalled b.items m x
+  past x far =
+      elim (cases_Bool (recalled b.items m x)) [
+        | inl t ↦ let near = item_below x (recalled_has b.items m x t) in absurd (omega arith)
+        | inr f ↦ sym f
+      ]
 
-pub failed_empty : (items : List Item) (i : ℕ) → failed_in items 0 i ≡ false
-failed_empty [] i = refl
-failed_empty (Held j ∷ items) i = failed_empty items i
-failed_empty (Failed j ∷ items) i = λ k. and_none (eqb i j) k || failed_empty items i k
+  -- tables that tell what is recalled below 128 tell all of it
+  pub tables_recall : (r : Recalled) → ((i : ℕ) → i < 128 → told r (Held i) ≡ recalled b.items m (Held i)) → ((i : ℕ) → i < 128 → told r (Failed i) ≡ recalled b.items m (Failed i)) → (x : Item) → told r x ≡ recalled b.items m x
+  tables_recall r held failed (Held i) = elim (cases_lt i 128) [ inl l ↦ held i l | inr far ↦ get_or_past r.held i false (omega (arith, r.sizes.0)) ∙ past (Held i) far ]
+  tables_recall r held failed (Failed i) = elim (cases_lt i 128) [ inl l ↦ failed i l | inr far ↦ get_or_past r.failed i false (omega (arith, r.sizes.1)) ∙ past (Failed i) far ]

@@ -1,6 +1,6 @@
 -- If a model unfolds the ground model, so does a layer on it: after every history the layer stands where the truth lines say, and shows
 -- and earns the wishes that hold at its end.
-use Rattle.std.proofs.Common.{◌≡◌, ℕ, zero, suc, ◌+◌, ◌-◌, ◌*◌, ◌^◌, ◌<◌, ◌≤◌, Bool, true, false, cond, ◌&&◌, ltb, List, [], ◌∷◌, ◌++◌, map, length, get_or, ℤ, pos, ◌+ℤ◌, sym, refl, ap, ◌∙◌, subst, arith, pow_pos, pow_mono}
+use Rattle.std.proofs.Common.{◌≡◌, ℕ, zero, suc, ◌+◌, ◌-◌, ◌*◌, ◌^◌, ◌<◌, ◌≤◌, Bool, true, cond, ◌&&◌, ltb, List, [], ◌∷◌, ◌++◌, map, length, ℤ, pos, ◌+ℤ◌, sym, refl, ap, ◌∙◌, subst, arith, pow_pos, pow_mono}
 use Rattle.std.specs.List.{ContainsAt as Has}
 use Rattle.std.proofs.lemmas.Nat.{div-mul-add, mod-mul-add}
 use Rattle.std.proofs.lemmas.List.{length_push, take_all, take-append-le}
@@ -18,10 +18,16 @@ use Rattle.wishbook.specs.Book.{Book, items_over}
 use Rattle.wishlayout.specs.declared.Wish.{Wish}
 use Rattle.wishlayout.specs.Wishes.{good_wish}
 use Rattle.words.specs.Tests.{all}
-use Rattle.layer.specs.Judging.{Remembered, recalled, verdict, verdicts_from, verdicts, bit, memory_of, bits_of_wishes, amount, earned}
+use Rattle.layer.specs.Judging.{wish_held, recalled, verdict, verdicts_from, verdicts, item_held, memory_of, bits_of_wishes, amount, earned}
+use Rattle.formula.specs.declared.Item.{Item}
+use Rattle.std.proofs.ByRecursion.{has_append_right}
+use Rattle.std.proofs.lemmas.List.{length-map, get_or-map}
+use Rattle.std.proofs.lemmas.Simd.{map-map}
+use Rattle.words.proofs.Tests.{all_at}
+use Rattle.layer.proofs.Counting.{bits_same}
 use Rattle.layer.specs.Layering.{under, memory, is_layer_state, judged, lifted, layered}
 use Rattle.layer.specs.Records.{trace_of, end_of, truths, memory_at, code_over, mask_over, reward_over}
-use Rattle.layer.specs.Sizes.{memory_below}
+use Rattle.layer.specs.Sizes.{bits_below}
 use Rattle.layer.proofs.Verdicts.{Right, verdicts_right, memory_at_state, recalls_at, memory_next, told_at}
 
 some_history : (g : Model) (h : List ℕ) → History g h → 1 ≤ length h
@@ -39,31 +45,26 @@ map_same : {X Y : Type 0} (f k : X → Y) (xs : List X) → ((x : X) → f x ≡
 map_same f k [] h = refl
 map_same f k (x ∷ xs) h = λ i. h x i ∷ map_same f k xs h i
 
-map-map : {X Y Z : Type 0} (f : Y → Z) (k : X → Y) (xs : List X) → map f (map k xs) ≡ map (λ x. f (k x)) xs
-map-map f k [] = refl
-map-map f k (x ∷ xs) = ap (λ l. f (k x) ∷ l) (map-map f k xs)
-
 truths_before : (ns : List Node) (mask : List ℕ → ℕ) (h : List ℕ) (t : ℕ) → 1 ≤ length h → truths ns (trace_of mask (h ++ (t ∷ []))) (end_of h) ≡ truths ns (trace_of mask h) (end_of h)
 truths_before ns mask h t some = map_same (λ f. holds f (trace_of mask (h ++ (t ∷ []))) (end_of h)) (λ f. holds f (trace_of mask h) (end_of h)) (formulas ns) (λ f. holds_local f (trace_of mask (h ++ (t ∷ []))) (trace_of mask h) (end_of h) (λ j le. trace_before mask h t j (omega arith)))
 
-verdicts-length : (mask : ℕ) (r : Remembered) (known : List Bool) (ns : List Node) → length (verdicts_from mask r known ns) ≡ length known + length ns
+verdicts-length : (mask : ℕ) (r : Item → Bool) (known : List Bool) (ns : List Node) → length (verdicts_from mask r known ns) ≡ length known + length ns
 verdicts-length mask r known [] = omega arith
 verdicts-length mask r known (n ∷ ns) = verdicts-length mask r (known ++ (verdict mask r (length known) known n ∷ [])) ns ∙ omega (arith, length_push known (verdict mask r (length known) known n))
 
-wish_bits_same : (ws : List Wish) (vs us : List Bool) → ((k : ℕ) → Has (map (λ w. w.node) ws) k → get_or vs k false ≡ get_or us k false) → bits_of_wishes ws vs ≡ bits_of_wishes ws us
-wish_bits_same [] vs us h = refl
-wish_bits_same (w ∷ ws) vs us h = λ i. bit (h w.node (0, omega arith, λ d. refl) i) + 2 * wish_bits_same ws vs us (λ k has. h k (suc has.0, omega (arith, has.1), has.2)) i
-
-earned_same : (sum : ℤ) (ws : List Wish) (vs us : List Bool) → ((k : ℕ) → Has (map (λ w. w.node) ws) k → get_or vs k false ≡ get_or us k false) → earned sum ws vs ≡ earned sum ws us
+earned_same : (sum : ℤ) (ws : List Wish) (vs us : List Bool) → ((w : Wish) → Has ws w → wish_held vs w ≡ wish_held us w) → earned sum ws vs ≡ earned sum ws us
 earned_same sum [] vs us h = refl
 earned_same sum (w ∷ ws) vs us h =
-    ap (λ b. earned (cond b (sum +ℤ amount w) sum) ws vs) (h w.node (0, omega arith, λ d. refl))
-    ∙ earned_same (cond (get_or us w.node false) (sum +ℤ amount w) sum) ws vs us (λ k has. h k (suc has.0, omega (arith, has.1), has.2))
+    ap (λ b. earned (cond b (sum +ℤ amount w) sum) ws vs) (h w (0, omega arith, λ d. refl))
+    ∙ earned_same (cond (wish_held us w) (sum +ℤ amount w) sum) ws vs us (λ x has. h x (has_append_right (w ∷ []) ws x has))
 
-root_below : (n : ℕ) (ws : List Wish) (k : ℕ) → all (good_wish n) ws ≡ true → Has (map (λ w. w.node) ws) k → k < n
-root_below n [] k each (p, l, at) = absurd (omega arith)
-root_below n (w ∷ ws) k each (zero, l, at) = subst (λ j. j < n) (at 0) (ltb-true w.node n (and_parts (ltb w.node n) (ltb w.raised 512) (and_parts (good_wish n w) (all (good_wish n) ws) each).0).0)
-root_below n (w ∷ ws) k each (suc p, l, at) = root_below n ws k (and_parts (good_wish n w) (all (good_wish n) ws) each).1 (p, omega arith, at)
+wish_below : (n : ℕ) (ws : List Wish) (w : Wish) → all (good_wish n) ws ≡ true → Has ws w → w.node < n
+wish_below n ws w each (k, l, at) =
+    let good : good_wish n w ≡ true = subst (λ x. good_wish n x ≡ true) (at w) (all_at (good_wish n) ws k w each l) in
+    ltb-true w.node n (and_parts (ltb w.node n) (ltb w.raised 512) good).0
+
+has_node : (ws : List Wish) (w : Wish) → Has ws w → Has (map (λ x. x.node) ws) w.node
+has_node ws w (k, l, at) = (k, omega (arith, length-map ws (λ x. x.node)), λ d. get_or-map (λ x. x.node) ws k w d l ∙ ap (λ (x : Wish). x.node) (at w))
 
 module _ (g m : Model) (code mask : List ℕ → ℕ) (reward : List ℕ → ℤ) (u : Unfolds g m code mask reward) (ns : List Node) (ws : List Wish) (ok : earlier ns ≡ true) (each : all (good_wish (length ns)) ws ≡ true) (few : length (items_over ns ws) ≤ 16) where
   abbrev book : Book
@@ -91,7 +92,7 @@ module _ (g m : Model) (code mask : List ℕ → ℕ) (reward : List ℕ → ℤ
 
     mem_items : (k : ℕ) → memory_at book τ k < 2 ^ length (items_over ns ws)
     mem_items zero = pow_pos (length (items_over ns ws))
-    mem_items (suc k) = memory_below (items_over ns ws) (truths ns τ k)
+    mem_items (suc k) = bits_below (item_held (truths ns τ k)) (items_over ns ws)
 
     mem_low : mem < 65536
     mem_low = let top : 2 ^ length (items_over ns ws) ≤ 2 ^ 16 = pow_mono few in omega (arith, mem_items n, top)
@@ -120,10 +121,10 @@ module _ (g m : Model) (code mask : List ℕ → ℕ) (reward : List ℕ → ℤ
     judged-length = verdicts-length (m.mask (under s)) (recalled (items_over ns ws) (memory s)) [] ns ∙ omega arith
 
     -- the verdicts on the wishes are what the truth lines say
-    wishes_right : (k : ℕ) → Has roots k → get_or (judged m book s) k false ≡ get_or (truths ns τ n) k false
-    wishes_right k has =
-        let low = root_below (length ns) ws k each has in
-        right k (omega (arith, judged-length)) ((exact ns roots ok).every k low (root has)) ∙ sym (told_at ns roots ok τ n k low)
+    wishes_right : (w : Wish) → Has ws w → wish_held (judged m book s) w ≡ wish_held (truths ns τ n) w
+    wishes_right w has =
+        let low = wish_below (length ns) ws w each has in
+        right w.node (omega (arith, judged-length)) ((exact ns roots ok).every w.node low (root (has_node ws w has))) ∙ sym (told_at ns roots ok τ n w.node low)
 
     next_memory : (t : ℕ) → memory_of (items_over ns ws) (judged m book s) ≡ memory_at book (trace_of mask (h ++ (t ∷ []))) (end_of (h ++ (t ∷ [])))
     next_memory t =
@@ -143,7 +144,7 @@ module _ (g m : Model) (code mask : List ℕ → ℕ) (reward : List ℕ → ℤ
     sites = λ h hist. ap (λ b. cond b (m.site (under (s h hist))) 0) (state_is h hist) ∙ ap m.site (under_is h hist) ∙ u.sites h hist;
     masks = λ h hist.
         ap (λ b. cond b (m.mask (under (s h hist)) + 2 ^ m.labels * bits_of_wishes ws (judged m book (s h hist))) 0) (state_is h hist)
-        ∙ (λ i. (ap m.mask (under_is h hist) ∙ u.masks h hist) i + 2 ^ m.labels * wish_bits_same ws (judged m book (s h hist)) (truths ns (trace_of mask h) (end_of h)) (wishes_right h hist) i);
+        ∙ (λ i. (ap m.mask (under_is h hist) ∙ u.masks h hist) i + 2 ^ m.labels * bits_same (wish_held (judged m book (s h hist))) (wish_held (truths ns (trace_of mask h) (end_of h))) ws (wishes_right h hist) i);
     rewards = λ h hist.
         ap (λ b. cond b (earned (m.reward (under (s h hist))) ws (judged m book (s h hist))) (pos 0)) (state_is h hist)
         ∙ ap (λ r. earned r ws (judged m book (s h hist))) (ap m.reward (under_is h hist) ∙ u.rewards h hist)

@@ -1,6 +1,6 @@
 -- Bits meet truth: where the remembered bits tell the truth of one position earlier, the verdict on every node that a wish rests on is
 -- what the truth lines say at this position, and so the next memory tells the truth of this one.
-use Rattle.std.proofs.Common.{◌≡◌, ℕ, zero, suc, ◌+◌, ◌*◌, ◌<◌, Bool, true, false, not, ◌&&◌, ◌||◌, ltb, List, [], ◌∷◌, ◌++◌, map, length, get_or, sym, refl, ap, ◌∙◌, subst, inl, inr, append_assoc, arith, length-append}
+use Rattle.std.proofs.Common.{◌≡◌, ℕ, zero, suc, ◌+◌, ◌<◌, Bool, true, false, not, ◌&&◌, ◌||◌, ltb, List, [], ◌∷◌, ◌++◌, length, get_or, sym, refl, ap, ◌∙◌, subst, inl, inr, append_assoc, arith, length-append}
 use Rattle.std.specs.List.{ContainsAt as Has}
 use Rattle.std.proofs.lemmas.List.{get_or_at, get_or_append_left, get_or_push, get_or-map, length_push}
 use Rattle.std.proofs.lemmas.Bool.{and_parts, ltb-true, cases_lt}
@@ -16,20 +16,10 @@ use Rattle.formula.proofs.Marks.{exact}
 use Rattle.formula.proofs.Trees.{earlier_at, formulas_at, length-formulas}
 use Rattle.truth.specs.Truth.{Trace, before, holds}
 use Rattle.truth.proofs.Unfolding.{since_first, since_next, always_first, always_next, sometime_first, sometime_next}
-use Rattle.layer.specs.Judging.{Remembered, recalled, bit, verdict, verdicts_from, verdicts, memory_of}
-use Rattle.layer.proofs.Recalling.{held_recalls, failed_recalls, held_empty, failed_empty}
-
-later : (x : Item) (xs : List Item) (y : Item) → Has xs y → Has (x ∷ xs) y
-later x xs y (k, l, at) = (suc k, omega arith, at)
-
-memory_same : (xs : List Item) (vs us : List Bool) → ((i : ℕ) → Has xs (Held i) → get_or vs i false ≡ get_or us i false) → ((i : ℕ) → Has xs (Failed i) → get_or vs i false ≡ get_or us i false) → memory_of xs vs ≡ memory_of xs us
-memory_same [] vs us h f = refl
-memory_same (Held i ∷ xs) vs us h f =
-    let rest = memory_same xs vs us (λ j has. h j (later (Held i) xs (Held j) has)) (λ j has. f j (later (Held i) xs (Failed j) has)) in
-    λ k. bit (h i (0, omega arith, λ d. refl) k) + 2 * rest k
-memory_same (Failed i ∷ xs) vs us h f =
-    let rest = memory_same xs vs us (λ j has. h j (later (Failed i) xs (Held j) has)) (λ j has. f j (later (Failed i) xs (Failed j) has)) in
-    λ k. bit (not (f i (0, omega arith, λ d. refl) k)) + 2 * rest k
+use Rattle.layer.specs.Judging.{node_of, recalled, verdict, verdicts_from, verdicts, item_held, memory_of}
+use Rattle.layer.specs.Records.{truths, tells}
+use Rattle.layer.proofs.Counting.{bits_same}
+use Rattle.layer.proofs.Recalling.{item_recalls, recalled_empty}
 
 before_same : (n : ℕ) (P Q : ℕ → Bool) → ((j : ℕ) → P j ≡ Q j) → before n P ≡ before n Q
 before_same zero P Q h = refl
@@ -52,10 +42,8 @@ module _ (ns : List Node) (roots : List ℕ) (ok : earlier ns ≡ true) (τ : Tr
   Right n vs = (i : ℕ) → i < length vs → Used i → get_or vs i false ≡ true_at n i
 
   -- bits that tell the truth of one position earlier
-  abbrev pub Recalls : ℕ → Remembered → Type 0
-  Recalls n r =
-      ((i : ℕ) → Has items (Held i) → r.held i ≡ before n (λ j. true_at j i))
-      × ((i : ℕ) → Has items (Failed i) → r.failed i ≡ before n (λ j. not (true_at j i)))
+  abbrev pub Recalls : ℕ → (Item → Bool) → Type 0
+  Recalls n r = (x : Item) → Has items x → r x ≡ before n (tells ns τ x)
 
   operand_used : (i a : ℕ) → i < length ns → a < i → Used i → Has (operands (get_or ns i True)) a → Used a
   operand_used i a l less u has = (exact ns roots ok).every a (omega arith) (below ((exact ns roots ok).only i l u) has)
@@ -89,7 +77,7 @@ module _ (ns : List Node) (roots : List ℕ) (ok : earlier ns ≡ true) (τ : Tr
   sometime_holds zero a held x h ex = (λ k. h k || ex k) ∙ sym (sometime_first a τ)
   sometime_holds (suc n) a held x h ex = (λ k. h k || ex k) ∙ sym (sometime_next a τ n)
 
-  module _ (n : ℕ) (r : Remembered) (recalls : Recalls n r) (known : List Bool) (right : Right n known) where
+  module _ (n : ℕ) (r : Item → Bool) (recalls : Recalls n r) (known : List Bool) (right : Right n known) where
     -- the verdict on the next node, by its kind
     abbrev here : ℕ
     here = length known
@@ -110,26 +98,26 @@ module _ (ns : List Node) (roots : List ℕ) (ok : earlier ns ≡ true) (τ : Tr
         λ k. known_at a l (ltb-true a here low.0) u (subst (λ m. Has (operands m) a) (sym is) (first_operand a b)) k || known_at b l (ltb-true b here low.1) u (subst (λ m. Has (operands m) b) (sym is) (second_operand a b)) k
     verdict_kind (Previous a) is l u o =
         let less = ltb-true a here o in
-        recalls.0 a ((selected ns (resting ns roots)).held_kept a (omega arith) (operand_used here a l less u (subst (λ m. Has (operands m) a) (sym is) (only_operand a))) (inr (here, l, u, is)))
+        recalls (Held a) ((selected ns (resting ns roots)).held_kept a (omega arith) (operand_used here a l less u (subst (λ m. Has (operands m) a) (sym is) (only_operand a))) (inr (here, l, u, is)))
     verdict_kind (Since a b) is l u o =
         let low = and_parts (ltb a here) (ltb b here) o in
         let has = (selected ns (resting ns roots)).held_kept here l u (inl (ap lasting is)) in
         let tree : (j : ℕ) → true_at j here ≡ holds (tree_of (formulas ns) (Since a b)) τ j = λ j. ap (λ f. holds f τ j) (formulas_at ns here ok l ∙ ap (tree_of (formulas ns)) is) in
-        since_holds n (get_or (formulas ns) a truth) (get_or (formulas ns) b truth) (r.held here) (get_or known a false) (get_or known b false)
-        (recalls.0 here has ∙ before_same n (λ j. true_at j here) (λ j. holds (tree_of (formulas ns) (Since a b)) τ j) tree)
+        since_holds n (get_or (formulas ns) a truth) (get_or (formulas ns) b truth) (r (Held here)) (get_or known a false) (get_or known b false)
+        (recalls (Held here) has ∙ before_same n (λ j. true_at j here) (λ j. holds (tree_of (formulas ns) (Since a b)) τ j) tree)
         (known_at a l (ltb-true a here low.0) u (subst (λ m. Has (operands m) a) (sym is) (first_operand a b)))
         (known_at b l (ltb-true b here low.1) u (subst (λ m. Has (operands m) b) (sym is) (second_operand a b)))
     verdict_kind (Always a) is l u o =
         let has = (selected ns (resting ns roots)).failed_kept here l u (ap is_always is) in
         let tree : (j : ℕ) → not (true_at j here) ≡ not (holds (tree_of (formulas ns) (Always a)) τ j) = λ j. ap (λ f. not (holds f τ j)) (formulas_at ns here ok l ∙ ap (tree_of (formulas ns)) is) in
-        always_holds n (get_or (formulas ns) a truth) (r.failed here) (get_or known a false)
-        (recalls.1 here has ∙ before_same n (λ j. not (true_at j here)) (λ j. not (holds (tree_of (formulas ns) (Always a)) τ j)) tree)
+        always_holds n (get_or (formulas ns) a truth) (r (Failed here)) (get_or known a false)
+        (recalls (Failed here) has ∙ before_same n (λ j. not (true_at j here)) (λ j. not (holds (tree_of (formulas ns) (Always a)) τ j)) tree)
         (known_at a l (ltb-true a here o) u (subst (λ m. Has (operands m) a) (sym is) (only_operand a)))
     verdict_kind (Once a) is l u o =
         let has = (selected ns (resting ns roots)).held_kept here l u (inl (ap lasting is)) in
         let tree : (j : ℕ) → true_at j here ≡ holds (tree_of (formulas ns) (Once a)) τ j = λ j. ap (λ f. holds f τ j) (formulas_at ns here ok l ∙ ap (tree_of (formulas ns)) is) in
-        sometime_holds n (get_or (formulas ns) a truth) (r.held here) (get_or known a false)
-        (recalls.0 here has ∙ before_same n (λ j. true_at j here) (λ j. holds (tree_of (formulas ns) (Once a)) τ j) tree)
+        sometime_holds n (get_or (formulas ns) a truth) (r (Held here)) (get_or known a false)
+        (recalls (Held here) has ∙ before_same n (λ j. true_at j here) (λ j. holds (tree_of (formulas ns) (Once a)) τ j) tree)
         (known_at a l (ltb-true a here o) u (subst (λ m. Has (operands m) a) (sym is) (only_operand a)))
 
     -- the next verdict is right too
@@ -145,7 +133,7 @@ module _ (ns : List Node) (roots : List ℕ) (ok : earlier ns ≡ true) (τ : Tr
               ∙ ap (λ f. holds f τ n) (sym (formulas_at ns here ok l ∙ ap (tree_of (formulas ns)) is)))
         ]
 
-  verdicts_from_right : (n : ℕ) (r : Remembered) → Recalls n r → (front rest : List Node) (known : List Bool) → ns ≡ front ++ rest → length known ≡ length front → Right n known → Right n (verdicts_from (τ n) r known rest)
+  verdicts_from_right : (n : ℕ) (r : Item → Bool) → Recalls n r → (front rest : List Node) (known : List Bool) → ns ≡ front ++ rest → length known ≡ length front → Right n known → Right n (verdicts_from (τ n) r known rest)
   verdicts_from_right n r recalls front [] known is long right = right
   verdicts_from_right n r recalls front (node ∷ rest) known is long right =
       let size = ap length is ∙ length-append front (node ∷ rest) in
@@ -156,32 +144,38 @@ module _ (ns : List Node) (roots : List ℕ) (ok : earlier ns ≡ true) (τ : Tr
       (next_right n r recalls known right node at (omega arith))
 
   -- the verdicts on the used nodes are what the truth lines say
-  pub verdicts_right : (n : ℕ) (r : Remembered) → Recalls n r → Right n (verdicts (τ n) r ns)
+  pub verdicts_right : (n : ℕ) (r : Item → Bool) → Recalls n r → Right n (verdicts (τ n) r ns)
   verdicts_right n r recalls = verdicts_from_right n r recalls [] ns [] refl refl (λ i l u. absurd (omega arith))
 
-  -- what the truth lines say of all nodes at position n
-  abbrev pub told : ℕ → List Bool
-  told n = map (λ f. holds f τ n) (formulas ns)
-
-  pub told_at : (n i : ℕ) → i < length ns → get_or (told n) i false ≡ true_at n i
+  pub told_at : (n i : ℕ) → i < length ns → get_or (truths ns τ n) i false ≡ true_at n i
   told_at n i l = get_or-map (λ f. holds f τ n) (formulas ns) i truth false (omega (arith, length-formulas ns))
+
+  -- an item is of a used node that there is
+  item_used : (x : Item) → Has items x → (node_of x < length ns) × Used (node_of x)
+  item_used (Held i) has = let sel = (selected ns (resting ns roots)).held_only i has in (sel.0, sel.1)
+  item_used (Failed i) has = let sel = (selected ns (resting ns roots)).failed_only i has in (sel.0, sel.1)
+
+  -- what is remembered of an item, from verdicts
+  from_node : (vs us : List Bool) (x : Item) → get_or vs (node_of x) false ≡ get_or us (node_of x) false → item_held vs x ≡ item_held us x
+  from_node vs us (Held i) e = e
+  from_node vs us (Failed i) e = ap not e
+
+  pub item_told : (n : ℕ) (x : Item) → Has items x → item_held (truths ns τ n) x ≡ tells ns τ x n
+  item_told n (Held i) has = told_at n i (item_used (Held i) has).0
+  item_told n (Failed i) has = ap not (told_at n i (item_used (Failed i) has).0)
 
   -- the memory after the positions below n
   abbrev pub memory_at_state : ℕ → ℕ
   memory_at_state zero = 0
-  memory_at_state (suc n) = memory_of items (told n)
+  memory_at_state (suc n) = memory_of items (truths ns τ n)
 
   -- it tells the truth of one position earlier, and nothing at the start
   pub recalls_at : (n : ℕ) → Recalls n (recalled items (memory_at_state n))
-  recalls_at zero = (λ i has. held_empty items i, λ i has. failed_empty items i)
-  recalls_at (suc n) = (
-    λ i has. held_recalls items (told n) i has ∙ told_at n i ((selected ns (resting ns roots)).held_only i has).0,
-    λ i has. failed_recalls items (told n) i has ∙ ap not (told_at n i ((selected ns (resting ns roots)).failed_only i has).0),
-  )
+  recalls_at zero x has = recalled_empty items x
+  recalls_at (suc n) x has = item_recalls (truths ns τ n) items x has ∙ item_told n x has
 
   -- the memory worked out from right verdicts at position n is the next one
   pub memory_next : (n : ℕ) (vs : List Bool) → length vs ≡ length ns → Right n vs → memory_of items vs ≡ memory_at_state (suc n)
   memory_next n vs long right =
-      memory_same items vs (told n)
-      (λ i has. let sel = (selected ns (resting ns roots)).held_only i has in right i (omega (arith, sel.0)) sel.1 ∙ sym (told_at n i sel.0))
-      (λ i has. let sel = (selected ns (resting ns roots)).failed_only i has in right i (omega (arith, sel.0)) sel.1 ∙ sym (told_at n i sel.0))
+      bits_same (item_held vs) (item_held (truths ns τ n)) items
+      (λ x has. let used = item_used x has in from_node vs (truths ns τ n) x (right (node_of x) (omega (arith, used.0)) used.1 ∙ sym (told_at n (node_of x) used.0)))

@@ -8,59 +8,67 @@ use Rattle.formula.specs.declared.Item.TheVariants.{Held, Failed}
 use Rattle.truth.specs.Truth.{labelled}
 use Rattle.wishlayout.specs.declared.Wish.{Wish}
 
--- what is remembered of a node
-pub record Remembered : Type 0 where
-  pub held : ℕ → Bool
-  pub failed : ℕ → Bool
+-- the node of an item
+abbrev pub node_of : Item → ℕ
+node_of (Held i) = i
+node_of (Failed i) = i
 
--- the bits of a memory from the first item on
-abbrev pub held_in : List Item → ℕ → ℕ → Bool
-held_in [] memory i = false
-held_in (Held j ∷ items) memory i = (i == j && memory % 2 == 1) || held_in items (memory / 2) i
-held_in (Failed j ∷ items) memory i = held_in items (memory / 2) i
+abbrev pub same_item : Item → Item → Bool
+same_item (Held i) (Held j) = i == j
+same_item (Held i) (Failed j) = false
+same_item (Failed i) (Held j) = false
+same_item (Failed i) (Failed j) = i == j
 
-abbrev pub failed_in : List Item → ℕ → ℕ → Bool
-failed_in [] memory i = false
-failed_in (Held j ∷ items) memory i = failed_in items (memory / 2) i
-failed_in (Failed j ∷ items) memory i = (i == j && memory % 2 == 1) || failed_in items (memory / 2) i
+-- the items whose bits a memory has set; the first item has the lowest bit
+abbrev pub recalled : List Item → ℕ → Item → Bool
+recalled [] memory x = false
+recalled (y ∷ items) memory x = (same_item x y && memory % 2 == 1) || recalled items (memory / 2) x
 
-abbrev pub recalled : List Item → ℕ → Remembered
-recalled items memory = record { held = held_in items memory; failed = failed_in items memory }
-
--- the verdict on node i, from the verdicts on the nodes before it
-abbrev pub verdict : ℕ → Remembered → ℕ → List Bool → Node → Bool
+-- the verdict on node i, from the items that r recalls and the verdicts on the nodes before it
+abbrev pub verdict : ℕ → (Item → Bool) → ℕ → List Bool → Node → Bool
 verdict mask r i known (Label p) = labelled mask p
 verdict mask r i known True = true
 verdict mask r i known (Not a) = not (slice_index_or known a false)
 verdict mask r i known (And a b) = slice_index_or known a false && slice_index_or known b false
 verdict mask r i known (Or a b) = slice_index_or known a false || slice_index_or known b false
-verdict mask r i known (Previous a) = r.held a
-verdict mask r i known (Since a b) = (slice_index_or known a false && r.held i) || slice_index_or known b false
-verdict mask r i known (Always a) = not (r.failed i) && slice_index_or known a false
-verdict mask r i known (Once a) = r.held i || slice_index_or known a false
+verdict mask r i known (Previous a) = r (Held a)
+verdict mask r i known (Since a b) = (slice_index_or known a false && r (Held i)) || slice_index_or known b false
+verdict mask r i known (Always a) = not (r (Failed i)) && slice_index_or known a false
+verdict mask r i known (Once a) = r (Held i) || slice_index_or known a false
 
 -- the verdicts on further nodes, after those on the nodes before them
-abbrev pub verdicts_from : ℕ → Remembered → List Bool → List Node → List Bool
+abbrev pub verdicts_from : ℕ → (Item → Bool) → List Bool → List Node → List Bool
 verdicts_from mask r known [] = known
 verdicts_from mask r known (n ∷ ns) = verdicts_from mask r (known ++ (verdict mask r (length known) known n ∷ [])) ns
 
-abbrev pub verdicts : ℕ → Remembered → List Node → List Bool
+abbrev pub verdicts : ℕ → (Item → Bool) → List Node → List Bool
 verdicts mask r ns = verdicts_from mask r [] ns
 
 abbrev pub bit : Bool → ℕ
 bit true = 1
 bit false = 0
 
+-- a number from bits, one for each x: the first is the lowest
+abbrev pub bits_of : {X : Type 0} → (X → Bool) → List X → ℕ
+bits_of holds [] = 0
+bits_of holds (x ∷ xs) = bit (holds x) + 2 * bits_of holds xs
+
+-- what is remembered of an item, from the verdicts
+abbrev pub item_held : List Bool → Item → Bool
+item_held vs (Held i) = slice_index_or vs i false
+item_held vs (Failed i) = not (slice_index_or vs i false)
+
 -- what is remembered of the verdicts: item 0 is the lowest bit
 abbrev pub memory_of : List Item → List Bool → ℕ
-memory_of [] vs = 0
-memory_of (Held i ∷ items) vs = bit (slice_index_or vs i false) + 2 * memory_of items vs
-memory_of (Failed i ∷ items) vs = bit (not (slice_index_or vs i false)) + 2 * memory_of items vs
+memory_of items vs = bits_of (item_held vs) items
+
+-- whether the node of a wish holds
+abbrev pub wish_held : List Bool → Wish → Bool
+wish_held vs w = slice_index_or vs w.node false
 
 -- one bit for each wish, in book order
 abbrev pub bits_of_wishes : List Wish → List Bool → ℕ
-bits_of_wishes [] vs = 0
-bits_of_wishes (w ∷ ws) vs = bit (slice_index_or vs w.node false) + 2 * bits_of_wishes ws vs
+bits_of_wishes ws vs = bits_of (wish_held vs) ws
 
 -- the amount of a wish
 abbrev pub amount : Wish → ℤ
@@ -69,4 +77,4 @@ amount w = pos w.raised -ℤ pos 255
 -- the amounts of the wishes that hold, after what was earned before
 abbrev pub earned : ℤ → List Wish → List Bool → ℤ
 earned sum [] vs = sum
-earned sum (w ∷ ws) vs = earned (cond (slice_index_or vs w.node false) (sum +ℤ amount w) sum) ws vs
+earned sum (w ∷ ws) vs = earned (cond (wish_held vs w) (sum +ℤ amount w) sum) ws vs

@@ -11,13 +11,13 @@ use Rattle.wishbook.specs.declared.book.WishBook.{WishBook}
 use Rattle.wishbook.specs.Book.{Book}
 use Rattle.wishbook.specs.Contents.{contents}
 use Rattle.words.specs.Tests.{all}
-use Rattle.layer.specs.Judging.{memory_of, bits_of_wishes, earned}
+use Rattle.layer.specs.Books.{kept}
+use Rattle.layer.specs.Judging.{item_held, memory_of, wish_held, bits_of_wishes, earned}
 use Rattle.layer.specs.Layering.{names_label_below, amounts, has_labels, bound_fits, span_fits, fits, under, memory, is_layer_state, judged, lifted, layered, over}
-use Rattle.layer.specs.Sizes.{take_few, memory_below, memory_small, wish_bits_below, mask_grows, earned_within}
+use Rattle.layer.specs.Sizes.{bits_below, bits_small, mask_grows, earned_within}
 
 -- what a book that fits leaves room for
 pub record Room (m : Model) (b : Book) : Type 0 where
-  pub named : all (names_label_below m.labels) b.nodes ≡ true
   pub labels : m.labels + length b.wishes ≤ 24
   pub bound : m.bound + amounts b.wishes ≤ 2000
   pub span : m.span ≤ 2 ^ 44
@@ -28,7 +28,6 @@ room m b e =
     let labels = and_parts (all (names_label_below m.labels) b.nodes) (nat_le (m.labels + length b.wishes) 24) whole.0 in
     let sizes = and_parts (bound_fits m b) (span_fits m) whole.1 in
     record {
-      named = labels.0;
       labels = leb-true (m.labels + length b.wishes) 24 labels.1;
       bound = leb-true (m.bound + amounts b.wishes) 2000 sizes.0;
       span = leb-true m.span (2 ^ 44) sizes.1;
@@ -96,7 +95,7 @@ module _ (m : Model) (b : Book) (law : Lawful m) (few : length b.items ≤ 16) (
   targets_law s a j d h =
       let o = get_or (m.outcomes (under s) a) j nowhere in
       ap (λ (x : Outcome). is_layer_state m b x.target) (outs_at s a j d h)
-      ∙ packed_state o.target (memory_of b.items (judged m b s)) (law.targets (under s) a j nowhere (outs_within s a j h)) (memory_below b.items (judged m b s)) (memory_small b.items (judged m b s) few)
+      ∙ packed_state o.target (memory_of b.items (judged m b s)) (law.targets (under s) a j nowhere (outs_within s a j h)) (bits_below (item_held (judged m b s)) b.items) (bits_small (item_held (judged m b s)) b.items few)
 
   apart_law : (s a j k : ℕ) (d : Outcome) → j < length ((layered m b).outcomes s a) → k < length ((layered m b).outcomes s a) → (get_or ((layered m b).outcomes s a) j d).target ≡ (get_or ((layered m b).outcomes s a) k d).target → j ≡ k
   apart_law s a j k d h g e =
@@ -128,7 +127,7 @@ module _ (m : Model) (b : Book) (law : Lawful m) (few : length b.items ≤ 16) (
   labelled_law : (s : ℕ) → (layered m b).mask s < 2 ^ (m.labels + length b.wishes)
   labelled_law s =
       cond_both (is_layer_state m b s) (m.mask (under s) + 2 ^ m.labels * bits_of_wishes b.wishes (judged m b s)) 0 (λ n. n < 2 ^ (m.labels + length b.wishes))
-      (λ t. mask_grows m.labels (length b.wishes) (m.mask (under s)) (bits_of_wishes b.wishes (judged m b s)) (law.labelled (under s)) (wish_bits_below b.wishes (judged m b s)))
+      (λ t. mask_grows m.labels (length b.wishes) (m.mask (under s)) (bits_of_wishes b.wishes (judged m b s)) (law.labelled (under s)) (bits_below (wish_held (judged m b s)) b.wishes))
       (λ f. pow_pos (m.labels + length b.wishes))
 
   bounded_law : (s : ℕ) → unsigned_abs ((layered m b).reward s) ≤ m.bound + amounts b.wishes
@@ -170,21 +169,8 @@ over_lawful m (Some b) law few = cond_both (fits m b) (layered m b) m Lawful (λ
 -- a wish book has at most 16 items
 pub layer_lawful : (m : Model) (o : Option WishBook) → Lawful m → Lawful (over m (option_map contents o))
 layer_lawful m None law = law
-layer_lawful m (Some w) law = over_lawful m (Some (contents w)) law (take_few w.kept w.items w.few.1)
+layer_lawful m (Some w) law = over_lawful m (Some (contents w)) law (kept w).few
 
--- what the code of a layer leans on, where the book fits
-module _ (m : Model) (b : Book) (law : Lawful m) (fit : fits m b ≡ true) where
-  pub state_room : (s : ℕ) → m.state s ≡ true → s < 2 ^ 44
-  state_room s e = omega (arith, law.within s e, (room m b fit).span)
-
-  pub target_room : (s a j : ℕ) (d : Outcome) → j < length (m.outcomes s a) → (get_or (m.outcomes s a) j d).target < 2 ^ 44
-  target_room s a j d h = state_room (get_or (m.outcomes s a) j d).target (law.targets s a j d h)
-
-  pub label_room : m.labels ≤ 24
-  label_room = law.narrow
-
-  pub mask_room : (s : ℕ) (vs : List Bool) → m.mask s + 2 ^ m.labels * bits_of_wishes b.wishes vs < 2 ^ 24
-  mask_room s vs = lt_of_lt_of_le (mask_grows m.labels (length b.wishes) (m.mask s) (bits_of_wishes b.wishes vs) (law.labelled s) (wish_bits_below b.wishes vs)) (pow_mono (room m b fit).labels)
-
-  pub reward_room : (s : ℕ) → unsigned_abs (m.reward s) ≤ 2000
-  reward_room s = omega (arith, law.bounded s, law.modest)
+-- the wish bits above a mask have room, where the book fits
+pub mask_room : (m : Model) (b : Book) → Lawful m → fits m b ≡ true → (s : ℕ) (vs : List Bool) → m.mask s + 2 ^ m.labels * bits_of_wishes b.wishes vs < 2 ^ 24
+mask_room m b law fit s vs = lt_of_lt_of_le (mask_grows m.labels (length b.wishes) (m.mask s) (bits_of_wishes b.wishes vs) (law.labelled s) (bits_below (wish_held vs) b.wishes)) (pow_mono (room m b fit).labels)

@@ -40,6 +40,7 @@ Bare mean l = meaning_of mean l ≡ mean l.below
 -- sizes are those of a model
 pub record SizesOf (m : Model) (z : Sizes) : Type 0 where
   pub labels : z.labels ≡ m.labels
+  pub actions : z.actions ≡ m.actions
   pub bound : z.bound ≡ m.bound
   pub span : z.span ≡ m.span
 

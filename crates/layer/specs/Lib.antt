@@ -1,7 +1,9 @@
 pub mod Judging
+pub mod Judged
 pub mod Tables
 pub mod Layering
 pub mod Laying
 pub mod Records
+pub mod Books
 pub mod Lawfulness
 pub mod Sizes

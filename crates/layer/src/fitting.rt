@@ -1,11 +1,12 @@
 // Whether a wish book can be laid on a model of given sizes.
-ghost use Rattle.std.specs.Prelude.{◌≡◌, ◌+◌, ◌*◌, length, None};
-ghost use Rattle.words.specs.Tests.{all};
+ghost use Rattle.std.specs.Prelude.{◌≡◌};
 ghost use Rattle.wishbook.specs.Contents.{contents};
-ghost use Rattle.layer.specs.Layering.{names_label_below, amounts as amounts_of};
+ghost use Rattle.layer.specs.Layering.{names_label_below};
 ghost use Rattle.layer.specs.Laying.{labels_have_room, refused_by};
+ghost use Rattle.std.specs.Result.{result_err};
+ghost use Rattle.words.specs.Tests.{all};
 
-use crate::counts::amounts;
+use crate::amounts::amounts;
 use formula::Node;
 use model::Sizes;
 use refusal::Refusal;
@@ -17,8 +18,8 @@ const LABELS: u64 = 24;
 // A reward is at most 2,000 from 0.
 const BOUND: u64 = 2000;
 
-// 2^44: with 16 bits of memory, a state is a number below 2^60.
-const SPAN: u64 = 17592186044416;
+// With 16 bits of memory, a state is a number below 2^60.
+const SPAN: u64 = 1 << 44;
 
 // The label that a node names is among the first `labels`.
 fn label_below(node: Node, labels: u32) -> bool
@@ -30,15 +31,11 @@ fn label_below(node: Node, labels: u32) -> bool
     }
 }
 
+// Every node names a label among the first `labels`, or none.
 fn labels_below(nodes: &[Node], labels: u32) -> bool
     ensures { result ≡ all (names_label_below labels) nodes.now }
 {
-    for node in nodes {
-        if !label_below(*node, labels) {
-            return false;
-        }
-    }
-    true
+    nodes.iter().all(|node| label_below(*node, labels))
 }
 
 // The book names only labels that there are, and there is room for one more for each wish.
@@ -48,34 +45,18 @@ fn labels_fit(book: &WishBook, labels: u32) -> bool
     labels_below(book.nodes(), labels) && labels as u64 + book.wishes().len() as u64 <= LABELS
 }
 
-// Why the book cannot be laid: labels, then the bound, then the span.
-pub(crate) fn refuse(sizes: Sizes, book: &WishBook) -> Option<Refusal>
-    ensures { result ≡ refused_by sizes.labels sizes.bound sizes.span (contents book.now) }
+// The book can be laid, or why not: labels, then the bound, then the span.
+pub(crate) fn fit(sizes: Sizes, book: &WishBook) -> Result<(), Refusal>
+    ensures { result_err result ≡ refused_by sizes.labels sizes.bound sizes.span (contents book.now) }
 {
     if !labels_fit(book, sizes.labels) {
-        return Some(Refusal::NoSuchLabel);
+        return Err(Refusal::NoSuchLabel);
     }
     if sizes.bound as u64 + amounts(book) as u64 > BOUND {
-        return Some(Refusal::BoundPassed);
+        return Err(Refusal::BoundPassed);
     }
     if sizes.span > SPAN {
-        return Some(Refusal::SpanPassed);
+        return Err(Refusal::SpanPassed);
     }
-    None
-}
-
-// The sizes with the book laid.
-pub(crate) fn grown(sizes: Sizes, book: &WishBook) -> Sizes
-    requires { refused_by sizes.labels sizes.bound sizes.span (contents book.now) ≡ None }
-    ensures labels { result.labels ≡ sizes.labels + length (contents book.now).wishes }
-    ensures actions { result.actions ≡ sizes.actions }
-    ensures bound { result.bound ≡ sizes.bound + amounts_of (contents book.now).wishes }
-    ensures span { result.span ≡ sizes.span * 65536 }
-{
-    Sizes {
-        labels: sizes.labels + book.wishes().len() as u32,
-        actions: sizes.actions,
-        bound: sizes.bound + amounts(book),
-        span: sizes.span * 65536,
-    }
+    Ok(())
 }

@@ -2,11 +2,14 @@
 
 #![tactic(auto)]
 
+mod amounts;
 mod counts;
 mod fitting;
+mod judged;
 mod judging;
 mod layers;
 mod over;
+mod recalled;
 
 pub use counts::{remember, wish_bits};
 pub use judging::judge;

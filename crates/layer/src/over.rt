@@ -1,33 +1,55 @@
-// The answers of a layer, where its book fits on the model below.
-ghost use Rattle.std.specs.Prelude.{◌≡◌, ℕ, ◌+◌, ◌*◌, ◌^◌, ◌<◌, ◌≤◌, true, map, length, nat_lt, slice_index_or};
+// A wish book on a model that it fits, which is again a model.
+ghost use Rattle.std.specs.Prelude.{◌≡◌, ℕ, ◌+◌, ◌*◌, ◌^◌, ◌<◌, ◌≤◌, true, false, IfOk, MatchOption, map, length, slice_index_or};
+ghost use Rattle.std.specs.Result.{result_err};
+ghost use Rattle.bounded.specs.Listed.{listed};
 ghost use Rattle.model.specs.declared.Outcome.{Outcome as Way};
-ghost use Rattle.model.specs.Ways.{listed};
 ghost use Rattle.wishbook.specs.Contents.{contents};
-ghost use Rattle.layer.specs.Layering.{fits, is_layer_state, layered};
-ghost use Rattle.layer.specs.Laying.{moved};
+ghost use Rattle.layer.specs.Books.{few_items};
+ghost use Rattle.layer.specs.Layering.{fits, is_layer_state, layered, memory as memory_in, refusal as refusal_of, under};
+ghost use Rattle.layer.specs.Lawfulness.{layered_lawful};
+ghost use Rattle.layer.specs.Laying.{moved, SizesOf};
 
-use crate::counts::{bits_in, earn_in, next_memory};
-use model::{Outcome, Outcomes, SiteModel};
+use crate::amounts::amounts;
+use crate::fitting::fit;
+use crate::judged::Judged;
+use model::{Outcome, Outcomes, SiteModel, Sizes};
+use refusal::Refusal;
 use wishbook::WishBook;
 
-// The number has no bits but those of the items.
-fn is_memory(book: &WishBook, memory: u64) -> bool
-    ensures { result ≡ nat_lt memory (2 ^ length (contents book.now).items) }
-{
-    memory < 1 << book.items().len()
+// A state is a state below times this, and a memory of 16 bits.
+pub(crate) const MEMORIES: u64 = 1 << 16;
+
+#[derive(Drop)]
+pub(crate) struct Over<'a, M: SiteModel> {
+    below: &'a M,
+    pub(crate) book: &'a WishBook,
+    sizes: Sizes,
+    ghost sized: { SizesOf (M.SiteModel.meaning below.now) sizes },
+    ghost fit: { fits (M.SiteModel.meaning below.now) (contents book.now) ≡ true },
 }
 
-pub(crate) fn start_over<M: SiteModel>(m: &M, book: &WishBook) -> u64
-    requires { fits (M.SiteModel.meaning m.now) (contents book.now) ≡ true }
-    ensures { result ≡ (layered (M.SiteModel.meaning m.now) (contents book.now)).start }
-{
-    m.start() * 65536
-}
+impl<'a, M: SiteModel> Over<'a, M> {
+    // The layer, or why the book cannot be laid.
+    pub(crate) fn new(below: &'a M, book: &'a WishBook) -> Result<Over<'a, M>, Refusal>
+        ensures parts { IfOk result (λ o. (o.below.now ≡ below.now) × (o.book.now ≡ book.now)) }
+        ensures refusal { result_err result ≡ refusal_of (M.SiteModel.meaning below.now) (contents book.now) }
+    {
+        let sizes = below.sizes();
+        fit(sizes, book)?;
+        Ok(Over { below, book, sizes })
+    }
 
-pub(crate) fn state_over<M: SiteModel>(m: &M, book: &WishBook, s: u64) -> bool
-    ensures { result ≡ is_layer_state (M.SiteModel.meaning m.now) (contents book.now) s }
-{
-    m.is_state(s / 65536) && is_memory(book, s % 65536)
+    // The state below and the memory, where `s` is a state of the layer.
+    fn apart(&self, s: u64) -> Option<(u64, u64)>
+        ensures { MatchOption result (is_layer_state (M.SiteModel.meaning self.now.below.now) (contents self.now.book.now) s ≡ false) (λ p. (is_layer_state (M.SiteModel.meaning self.now.below.now) (contents self.now.book.now) s ≡ true) × (p.0 ≡ under s) × (p.1 ≡ memory_in s)) }
+    {
+        let (below, memory) = (s / MEMORIES, s % MEMORIES);
+        if self.below.is_state(below) && memory < 1 << self.book.items().len() {
+            Some((below, memory))
+        } else {
+            None
+        }
+    }
 }
 
 // A mask with the wish bits above its labels.
@@ -39,70 +61,76 @@ fn join(mask: u32, labels: u32, bits: u32) -> u32
     mask + (bits << labels)
 }
 
-pub(crate) fn mask_over<M: SiteModel>(m: &M, book: &WishBook, s: u64) -> u32
-    requires { fits (M.SiteModel.meaning m.now) (contents book.now) ≡ true }
-    ensures { result ≡ (layered (M.SiteModel.meaning m.now) (contents book.now)).mask s }
-{
-    if !state_over(m, book, s) {
-        return 0;
-    }
-    let mask = m.mask(s / 65536);
-    join(mask, m.labels(), bits_in(book, mask, s % 65536))
-}
-
-pub(crate) fn reward_over<M: SiteModel>(m: &M, book: &WishBook, s: u64) -> i32
-    requires { fits (M.SiteModel.meaning m.now) (contents book.now) ≡ true }
-    ensures { result ≡ (layered (M.SiteModel.meaning m.now) (contents book.now)).reward s }
-{
-    if !state_over(m, book, s) {
-        return 0;
-    }
-    let below = s / 65536;
-    earn_in(book, m.mask(below), s % 65536, m.reward(below))
-}
-
-pub(crate) fn ground_over<M: SiteModel>(m: &M, book: &WishBook, s: u64) -> u64
-    ensures { result ≡ (layered (M.SiteModel.meaning m.now) (contents book.now)).site s }
-{
-    if state_over(m, book, s) {
-        m.ground(s / 65536)
-    } else {
-        0
-    }
-}
-
-pub(crate) fn offers_over<M: SiteModel>(m: &M, book: &WishBook, s: u64, a: u32) -> bool
-    ensures { result ≡ (layered (M.SiteModel.meaning m.now) (contents book.now)).offered s a }
-{
-    state_over(m, book, s) && m.offers(s / 65536, a)
-}
-
 // The outcomes with a memory beside each target.
-fn lift(ways: &Outcomes, memory: u64) -> Outcomes
-    requires low { (j : ℕ) (d : Way) → j < length (listed ways.now) → (slice_index_or (listed ways.now) j d).target < 2 ^ 44 }
+fn lift(ways: Outcomes, memory: u64) -> Outcomes
+    requires low { (j : ℕ) (d : Way) → j < length (listed ways) → (slice_index_or (listed ways) j d).target < 2 ^ 44 }
     requires small { memory < 65536 }
-    ensures { listed result ≡ map (moved memory) (listed ways.now) }
+    ensures { listed result ≡ map (moved memory) (listed ways) }
 {
-    let mut all = Outcomes::none();
+    let mut all = Outcomes::new();
     for way in ways.as_slice() {
         let _ = all.push(Outcome {
-            target: way.target * 65536 + memory,
+            target: way.target * MEMORIES + memory,
             weight: way.weight,
         });
     }
     all
 }
 
-pub(crate) fn outcomes_over<M: SiteModel>(m: &M, book: &WishBook, s: u64, a: u32) -> Outcomes
-    requires { fits (M.SiteModel.meaning m.now) (contents book.now) ≡ true }
-    ensures { listed result ≡ (layered (M.SiteModel.meaning m.now) (contents book.now)).outcomes s a }
-{
-    if !state_over(m, book, s) {
-        return Outcomes::none();
+impl<'a, M: SiteModel> SiteModel for Over<'a, M> {
+    ghost meaning = { λ o. layered (M.SiteModel.meaning o.below.now) (contents o.book.now) };
+
+    ghost lawful = { λ o. layered_lawful (M.SiteModel.meaning o.below.now) (contents o.book.now) (M.SiteModel.lawful o.below.now) (few_items o.book.now) o.fit };
+
+    fn start(&self) -> u64 {
+        self.below.start() * MEMORIES
     }
-    let below = s / 65536;
-    lift(
-        &m.outcomes(below, a),
-        next_memory(book, m.mask(below), s % 65536),
-    )
+
+    fn is_state(&self, s: u64) -> bool {
+        self.apart(s).is_some()
+    }
+
+    fn mask(&self, s: u64) -> u32 {
+        let Some((below, memory)) = self.apart(s) else {
+            return 0;
+        };
+        let mask = self.below.mask(below);
+        let judged = Judged::new(self.book, mask, memory);
+        join(mask, self.sizes.labels, judged.bits())
+    }
+
+    fn reward(&self, s: u64) -> i32 {
+        let Some((below, memory)) = self.apart(s) else {
+            return 0;
+        };
+        let judged = Judged::new(self.book, self.below.mask(below), memory);
+        judged.earned(self.below.reward(below))
+    }
+
+    fn ground(&self, s: u64) -> u64 {
+        self.apart(s)
+            .map_or(0, |(below, _)| self.below.ground(below))
+    }
+
+    fn offers(&self, s: u64, a: u32) -> bool {
+        self.apart(s)
+            .is_some_and(|(below, _)| self.below.offers(below, a))
+    }
+
+    fn outcomes(&self, s: u64, a: u32) -> Outcomes {
+        let Some((below, memory)) = self.apart(s) else {
+            return Outcomes::new();
+        };
+        let judged = Judged::new(self.book, self.below.mask(below), memory);
+        lift(self.below.outcomes(below, a), judged.memory())
+    }
+
+    fn sizes(&self) -> Sizes {
+        Sizes {
+            labels: self.sizes.labels + self.book.wishes().len() as u32,
+            actions: self.sizes.actions,
+            bound: self.sizes.bound + amounts(self.book),
+            span: self.sizes.span * MEMORIES,
+        }
+    }
 }

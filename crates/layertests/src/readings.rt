@@ -1,7 +1,8 @@
-// Each row is a wish book, the label masks of a record, and the wishes that hold at each position, worked out by hand from the truth
-// lines.
+// Each row is a wish book and a record: at each position the label mask, and the wishes that hold there, worked out by hand from the
+// truth lines.
 use layer::{judge, remember, wish_bits};
-use std::alloc::{AllocError, Global};
+use refusal::Fault;
+use std::alloc::Global;
 use std::test::Fail;
 use wishbook::{WishBook, read_wish};
 
@@ -14,31 +15,21 @@ static PREVIOUS: [u32; 4] = [0x10000000, 0x50000000, 0xA0010001, 0xF0000003];
 // "p0 since p1": p0 is not asked at the position at which p1 holds.
 static SINCE: [u32; 5] = [0x10000000, 0x10000001, 0x60000100, 0xA0010002, 0xF0000004];
 
-fn book_of(heap: Global, words: &[u32]) -> Result<Option<WishBook>, AllocError> {
+fn book_of(heap: Global, words: &[u32]) -> Result<WishBook, Fault> {
     let mut bytes = Vec::new(heap);
     for word in words {
         bytes.extend_from_slice(&word.to_le_bytes())?;
     }
-    match read_wish(bytes.as_slice()) {
-        Ok(book) => Ok(Some(book)),
-        Err(_) => Ok(None),
-    }
+    read_wish(bytes.as_slice())
 }
 
 // Follows a record through the layer's memory, and compares the wish bits at each position.
-fn follow(
-    heap: Global,
-    words: &[u32],
-    masks: &[u32],
-    expected: &[u32],
-) -> Result<bool, AllocError> {
-    let Some(book) = book_of(heap, words)? else {
-        return Ok(false);
-    };
+fn follow(heap: Global, words: &[u32], record: &[(u32, u32)]) -> Result<bool, Fault> {
+    let book = book_of(heap, words)?;
     let mut memory = 0;
-    for i in 0..masks.len() {
-        let truths = judge(&book, masks[i], memory);
-        if i >= expected.len() || wish_bits(&book, &truths) != expected[i] {
+    for (mask, wanted) in record {
+        let truths = judge(&book, *mask, memory);
+        if wish_bits(&book, &truths) != *wanted {
             return Ok(false);
         }
         memory = remember(&book, &truths);
@@ -50,15 +41,15 @@ fn follow(
 fn readings(rt: HostRuntime) -> Result<(), Fail> {
     let heap = rt.alloc();
     assert!(rt;
-        follow(heap, &ALWAYS, &[1, 1, 0, 1], &[1, 3, 2, 0])?,
+        follow(heap, &ALWAYS, &[(1, 1), (1, 3), (0, 2), (1, 0)])?,
         "always, and previous always"
     );
     assert!(rt;
-        follow(heap, &PREVIOUS, &[1, 0, 1, 1], &[0, 1, 0, 1])?,
+        follow(heap, &PREVIOUS, &[(1, 0), (0, 1), (1, 0), (1, 1)])?,
         "memory is of the state left"
     );
     assert!(rt;
-        follow(heap, &SINCE, &[2, 1, 0, 2, 3], &[1, 1, 0, 1, 1])?,
+        follow(heap, &SINCE, &[(2, 1), (1, 1), (0, 0), (2, 1), (3, 1)])?,
         "since asks its left side only later"
     );
     Ok(())

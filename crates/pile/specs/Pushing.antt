@@ -1,11 +1,11 @@
 -- One floor more on a pile.
 use Rattle.std.specs.Prelude.{◌≡◌, List, [], ◌∷◌, ◌++◌, Some, None, Option, refl}
-use Rattle.std.proofs.Common.{sym, ap, ◌∙◌, arith}
+use Rattle.std.proofs.Common.{sym, ap, ◌∙◌}
 use Rattle.std.specs.Option.{option_map}
-use Rattle.std.proofs.lemmas.List.{length-take-le}
 use Rattle.model.specs.Models.{Model, Lawful, Ground}
 use Rattle.wishbook.specs.declared.book.WishBook.{WishBook}
 use Rattle.wishbook.specs.Contents.{contents}
+use Rattle.layer.specs.Books.{kept}
 use Rattle.layer.specs.Layering.{over}
 use Rattle.pile.specs.Piles.{Floor, piled, SoundFloor, SoundFloors, Laid}
 
@@ -20,7 +20,7 @@ sound_push (x ∷ fs) f s ok = (s.0, sound_push fs f s.1 ok)
 -- a wish book in memory is sound
 pub book_sound : (o : Option WishBook) → SoundFloor (option_map contents o)
 book_sound None = tt
-book_sound (Some b) = record { names = b.sound; remembers = b.remembers; few = omega (arith, length-take-le b.kept b.items (omega (arith, b.few.0, b.few.1)), b.few.1) }
+book_sound (Some b) = kept b
 
 -- a ground model is a pile with no floor
 pub laid_bare : (m : Model) → Lawful m → Ground m → Laid m m []

@@ -15,7 +15,8 @@ pub trait Pile: SiteModel {
     ghost laid: { (p : Self) → Laid (Self.SiteModel.meaning p) (base p) (floors p) };
 }
 
-// A ground model, whoever wrote it, as the bottom of a pile.
+// A ground model, whoever wrote it, as the bottom of a pile. It is a type of its own, since an `impl Pile` for every ground model would
+// overlap with that for every `Layer`.
 #[derive(Drop)]
 pub struct Footing<G> {
     bottom: G,
@@ -29,6 +30,7 @@ impl<G: GroundModel> Footing<G> {
     }
 }
 
+// Every question goes to the ground model; a trait's methods are handed on one by one.
 impl<G: GroundModel> SiteModel for Footing<G> {
     ghost meaning = { λ f. G.SiteModel.meaning f.bottom };
 

@@ -1,6 +1,6 @@
 -- All so far are in.
 use Rattle.std.proofs.Common.{◌≡◌, map, take}
-use Rattle.model.specs.Ways.{listed}
+use Rattle.bounded.specs.Listed.{listed}
 use Rattle.layer.specs.Laying.{moved}
 use Rattle.layer.proofs.over.lift.Given as goal
 
