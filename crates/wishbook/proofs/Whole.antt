@@ -17,28 +17,14 @@ use Rattle.wishlayout.specs.declared.Wish.{Wish}
 use Rattle.wishlayout.specs.Layout.{Draft, whole_book}
 use Rattle.wishlayout.specs.Wishes.{Wishes, items_for, good_wish}
 use Rattle.wishlayout.proofs.Way.{validly}
+use Rattle.bounded.proofs.Few.{few}
 use Rattle.bounded.specs.Listed.{listed}
-use Rattle.bounded.specs.declared.Bounded.{Bounded}
 use Rattle.refusal.specs.declared.Refusal.{Refusal}
 use Rattle.wishbook.specs.declared.book.WishBook.{WishBook}
 use Rattle.wishbook.specs.declared.gathered.Gathered.{Gathered}
 use Rattle.wishbook.specs.Gathering.{draft_of}
 use Rattle.wishbook.specs.Book.{renamed, book_of, sound, items_over, meant, SameWishes}
 use Rattle.wishbook.specs.Contents.{contents}
-
--- a book is small
-
-few_of : {X : Type 0} {most : ℕ} (b : Bounded X most) → length (listed b) ≤ most
-few_of {most = most} b = omega (arith, length-take b.len b.places, b.fits)
-
-pub few_nodes : (b : WishBook) → length (contents b).nodes ≤ 128
-few_nodes b = few_of b.nodes
-
-pub few_wishes : (b : WishBook) → length (contents b).wishes ≤ 16
-few_wishes b = few_of b.wishes
-
-pub few_items : (b : WishBook) → length (contents b).items ≤ 16
-few_items b = few_of b.items
 
 -- merging at most 128 words into tables of 128 places always goes
 pub always_merges : {nodes nodes' : List Node} {numbers numbers' : List ℕ} (ns : List Node) → length ns ≤ 128 → length nodes ≡ 128 → length numbers ≡ 128 → Merges ns nodes nodes' numbers numbers' None → ⊥
@@ -115,7 +101,7 @@ module _ (g : Gathered) where
       let items : listed b.items ≡ items_for (listed g.nodes) (listed g.wishes) = b.remembers ∙ items_known (listed b.nodes) (listed b.wishes) en ew in
       wished s (Ok b) some f
       (subst (λ t. Finished Means (cond t (Ok (record { nodes = listed g.nodes; wishes = listed g.wishes })) (Err TooManyItems)) (Ok b))
-      (sym (le-leb (length (items_for (listed g.nodes) (listed g.wishes))) 16 (omega (arith, ap length items, few_items b))))
+      (sym (le-leb (length (items_for (listed g.nodes) (listed g.wishes))) 16 (omega (arith, ap length items, few b.items))))
       (λ i. record { nodes = en i; wishes = ew i; items = items i }))
 
 -- what merging leaves in its tables
