@@ -1,5 +1,5 @@
 -- The items that are kept: which they are, and that they rise.
-use Rattle.std.proofs.Common.{◌≡◌, ℕ, zero, suc, ◌+◌, ◌-◌, ◌*◌, ◌<◌, ◌≤◌, Bool, true, false, cond, ◌&&◌, ◌||◌, ◌⊎◌, List, [], ◌∷◌, ◌++◌, length, get_or, sym, refl, ap, ◌∙◌, subst, inl, inr, arith}
+use Rattle.std.proofs.Common.{◌≡◌, ℕ, zero, suc, ◌+◌, ◌-◌, ◌*◌, ◌<◌, ◌≤◌, Bool, true, false, cond, ◌&&◌, ◌||◌, ◌⊎◌, List, [], ◌∷◌, ◌++◌, length, get_or, sym, refl, ap, ◌∙◌, subst, inl, inr, arith, rules}
 use Rattle.std.specs.List.{ContainsAt as Has}
 use Rattle.std.proofs.lemmas.List.{length-append, get_or_append_left, get_or-append_right}
 use Rattle.std.proofs.ByRecursion.{has_get_or, has_append_left, has_append_right}
@@ -102,11 +102,11 @@ module _ (nodes : List Node) (used : List Bool) where
 
   failed_from : (i : ℕ) → failed_test i ≡ true → (get_or used i false ≡ true) × (is_always (get_or nodes i True) ≡ true)
   unfolding failed_test
-  failed_from i h = and_parts (get_or used i false) (is_always (get_or nodes i True)) h
+  failed_from i h = search rules
 
   failed_to : (i : ℕ) → get_or used i false ≡ true → is_always (get_or nodes i True) ≡ true → failed_test i ≡ true
   unfolding failed_test
-  failed_to i u e = and_from (get_or used i false) (is_always (get_or nodes i True)) u e
+  failed_to i u e = search rules
 
   -- an item of node k
   at_cases : (k : ℕ) (x : Item) → Has (items_at nodes used k) x → ((held_test k ≡ true) × (Held k ≡ x)) ⊎ ((failed_test k ≡ true) × (Failed k ≡ x))

@@ -1,9 +1,9 @@
 -- Merging keeps the formulas: each once, in the order in which they first come, and each word's number is that of its formula.
-use Rattle.std.proofs.Common.{◌≡◌, ℕ, suc, ◌+◌, ◌<◌, ◌≤◌, true, ltb, List, [], ◌∷◌, ◌++◌, length, get_or, sym, refl, ap, ◌∙◌, subst, ⊎_elim, arith, rules}
+use Rattle.std.proofs.Common.{◌≡◌, ℕ, suc, ◌+◌, ◌<◌, ◌≤◌, true, List, [], ◌∷◌, ◌++◌, length, get_or, sym, refl, ap, ◌∙◌, subst, ⊎_elim, arith, rules}
 use Rattle.std.specs.List.{ContainsAt as Has}
 use Rattle.std.proofs.ByRecursion.{has_get_or}
-use Rattle.std.proofs.lemmas.List.{append-nil, append_assoc, length_push, get_or_append_left, get_or_push}
-use Rattle.std.proofs.lemmas.Bool.{and_parts, and_from, ltb-true, lt-ltb, cases_lt}
+use Rattle.std.proofs.lemmas.List.{append_assoc, length_push, get_or_append_left, get_or_push}
+use Rattle.std.proofs.lemmas.Bool.{and_parts, ltb-true, lt-ltb, cases_lt}
 use Rattle.register.specs.Keys.{Decides, Kept, place_of, enter}
 use Rattle.register.proofs.Keys.{place_of_at, place_of_before, enter_both}
 use Rattle.register.proofs.Steps.{kept_none}
@@ -22,16 +22,10 @@ renumbered_below : (ks : List ℕ) (k m : ℕ) (w : Node) → operands_below k w
 renumbered_below ks k m (Label p) h low = refl
 renumbered_below ks k m True h low = refl
 renumbered_below ks k m (Not a) h low = lt-ltb (get_or ks a 0) m (low a (ltb-true a k h))
-renumbered_below ks k m (And a b) h low =
-    let p = and_parts (ltb a k) (ltb b k) h in
-    and_from _ _ (lt-ltb (get_or ks a 0) m (low a (ltb-true a k p.0))) (lt-ltb (get_or ks b 0) m (low b (ltb-true b k p.1)))
-renumbered_below ks k m (Or a b) h low =
-    let p = and_parts (ltb a k) (ltb b k) h in
-    and_from _ _ (lt-ltb (get_or ks a 0) m (low a (ltb-true a k p.0))) (lt-ltb (get_or ks b 0) m (low b (ltb-true b k p.1)))
+renumbered_below ks k m (And a b) h low = search rules
+renumbered_below ks k m (Or a b) h low = search rules
 renumbered_below ks k m (Previous a) h low = lt-ltb (get_or ks a 0) m (low a (ltb-true a k h))
-renumbered_below ks k m (Since a b) h low =
-    let p = and_parts (ltb a k) (ltb b k) h in
-    and_from _ _ (lt-ltb (get_or ks a 0) m (low a (ltb-true a k p.0))) (lt-ltb (get_or ks b 0) m (low b (ltb-true b k p.1)))
+renumbered_below ks k m (Since a b) h low = search rules
 renumbered_below ks k m (Always a) h low = lt-ltb (get_or ks a 0) m (low a (ltb-true a k h))
 renumbered_below ks k m (Once a) h low = lt-ltb (get_or ks a 0) m (low a (ltb-true a k h))
 
@@ -39,19 +33,10 @@ renumbered_tree : (ts us : List Formula) (ks : List ℕ) (k : ℕ) (w : Node) �
 renumbered_tree ts us ks k (Label p) h same = refl
 renumbered_tree ts us ks k True h same = refl
 renumbered_tree ts us ks k (Not a) h same = let e = same a (ltb-true a k h) in cc
-renumbered_tree ts us ks k (And a b) h same =
-    let p = and_parts (ltb a k) (ltb b k) h in
-    let e = same a (ltb-true a k p.0) in
-    let f = same b (ltb-true b k p.1) in cc
-renumbered_tree ts us ks k (Or a b) h same =
-    let p = and_parts (ltb a k) (ltb b k) h in
-    let e = same a (ltb-true a k p.0) in
-    let f = same b (ltb-true b k p.1) in cc
+renumbered_tree ts us ks k (And a b) h same = search rules
+renumbered_tree ts us ks k (Or a b) h same = search rules
 renumbered_tree ts us ks k (Previous a) h same = let e = same a (ltb-true a k h) in cc
-renumbered_tree ts us ks k (Since a b) h same =
-    let p = and_parts (ltb a k) (ltb b k) h in
-    let e = same a (ltb-true a k p.0) in
-    let f = same b (ltb-true b k p.1) in cc
+renumbered_tree ts us ks k (Since a b) h same = search rules
 renumbered_tree ts us ks k (Always a) h same = let e = same a (ltb-true a k h) in cc
 renumbered_tree ts us ks k (Once a) h same = let e = same a (ltb-true a k h) in cc
 
@@ -86,10 +71,10 @@ last_tree came w =
 
 module _ (came held : List Node) (numbers : List ℕ) (w : Node) (sound : Sound came held numbers) (low : operands_below (length came) w ≡ true) where
   low_node : operands_below (length held) (renumbered numbers w) ≡ true
-  low_node = renumbered_below numbers (length came) (length held) w low sound.range
+  low_node = search rules
 
   node_tree : tree_of (formulas held) (renumbered numbers w) ≡ tree_of (formulas came) w
-  node_tree = renumbered_tree (formulas came) (formulas held) numbers (length came) w low sound.same
+  node_tree = search rules
 
   -- a node of the list has the tree of the word only if it is the word's node
   only_node : (p : ℕ) → p < length held → get_or (formulas held) p truth ≡ tree_of (formulas came) w → get_or held p True ≡ renumbered numbers w
@@ -155,7 +140,7 @@ module _ (came held : List Node) (numbers : List ℕ) (w : Node) (sound : Sound 
       (sound_new (λ p l at. place_of_before same_node same_node_decides n held p True (omega arith) at)))
 
 sound_all : (came ws : List Node) (m : Merged) → Sound came m.held m.numbers → earlier_from (length came) ws ≡ true → Sound (came ++ ws) (merge_from m ws).held (merge_from m ws).numbers
-sound_all came [] m sound h = subst (λ cs. Sound cs m.held m.numbers) (sym (append-nil came)) sound
+sound_all came [] m sound h = search rules
 sound_all came (w ∷ ws) m sound h =
     let p = and_parts (operands_below (length came) w) (earlier_from (suc (length came)) ws) h in
     let long : suc (length came) ≡ length (came ++ (w ∷ [])) = omega (arith, length_push came w) in

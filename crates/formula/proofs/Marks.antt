@@ -1,5 +1,5 @@
 -- The marks are exact: a node is marked if and only if it rests.
-use Rattle.std.proofs.Common.{◌≡◌, ℕ, zero, suc, ◌<◌, ◌≤◌, Bool, true, false, cond, ◌⊎◌, List, [], ◌∷◌, length, get_or, set, replicate, sym, refl, ap, ◌∙◌, subst, inl, inr, arith}
+use Rattle.std.proofs.Common.{◌≡◌, ℕ, zero, suc, ◌<◌, ◌≤◌, Bool, true, false, cond, ◌⊎◌, List, [], ◌∷◌, length, get_or, set, replicate, sym, refl, ap, ◌∙◌, subst, inl, inr, arith, rules}
 use Rattle.std.specs.List.{ContainsAt as Has, AllByRecursion as All}
 use Rattle.std.proofs.lemmas.List.{length-set, length-replicate, get_or-set_same, get_or-set_other, get_or-replicate, get_or_past}
 use Rattle.std.proofs.lemmas.Bool.{both_ways, cond_both, cond-true, cases_lt, cases_eq}
@@ -39,8 +39,7 @@ set_stays ms a i h =
     ]
 
 set-from : (ms : List Bool) (a i : ℕ) → get_or (set ms a true) i false ≡ true → (a ≡ i) ⊎ (get_or ms i false ≡ true)
-set-from ms a i h =
-    elim (cases_eq i a) [ inl e ↦ inl (sym e) | inr ne ↦ inr (sym (get_or-set_other ms a i true false ne) ∙ h) ]
+set-from ms a i h = search rules
 
 -- what is marked stays marked
 all_marked_stays : (ms : List Bool) (as' : List ℕ) (i : ℕ) → get_or ms i false ≡ true → get_or (all_marked ms as') i false ≡ true
@@ -78,9 +77,7 @@ module _ (nodes : List Node) where
 
   length-turned : (k : ℕ) (ms : List Bool) → length (turned k ms) ≡ length ms
   unfolding turned
-  length-turned k ms =
-      cond_both (get_or ms k false) (all_marked ms (operands (get_or nodes k True))) ms (λ r. length r ≡ length ms)
-      (λ _. length-all_marked ms (operands (get_or nodes k True))) (λ _. refl)
+  length-turned k ms = search rules
 
   turned_stays : (k : ℕ) (ms : List Bool) (i : ℕ) → get_or ms i false ≡ true → get_or (turned k ms) i false ≡ true
   unfolding turned
@@ -96,9 +93,7 @@ module _ (nodes : List Node) where
 
   turned_high : (k : ℕ) (ms : List Bool) (i : ℕ) → All (λ a. a < k) (operands (get_or nodes k True)) → k ≤ i → get_or (turned k ms) i false ≡ get_or ms i false
   unfolding turned
-  turned_high k ms i low l =
-      cond_both (get_or ms k false) (all_marked ms (operands (get_or nodes k True))) ms (λ r. get_or r i false ≡ get_or ms i false)
-      (λ _. all_marked_high ms (operands (get_or nodes k True)) k i low l) (λ _. refl)
+  turned_high k ms i low l = search rules
 
   spread_step : (k : ℕ) (ms : List Bool) → spread nodes (suc k) ms ≡ spread nodes k (turned k ms)
   unfolding turned

@@ -1,11 +1,10 @@
 -- The marks in a table of 128 keep the same items as the marks of the nodes alone.
-use Rattle.std.proofs.Common.{◌≡◌, ℕ, zero, suc, ◌-◌, Bool, false, cond, ◌&&◌, ◌||◌, List, [], ◌∷◌, ◌++◌, length, get_or, replicate, Some, sym, refl, ap, ◌∙◌, inl, inr, arith}
+use Rattle.std.proofs.Common.{◌≡◌, ℕ, zero, suc, ◌-◌, Bool, false, ◌&&◌, ◌||◌, List, ◌++◌, length, get_or, replicate, Some, sym, refl, ap, ◌∙◌, inl, inr, arith, rules}
 use Rattle.std.proofs.lemmas.List.{length-append, length-replicate, get_or_append_left, get_or-append_right, get_or_past, get_or-replicate}
 use Rattle.std.proofs.lemmas.Bool.{cases_lt}
 use Rattle.formula.specs.declared.Node.{Node}
 use Rattle.formula.specs.declared.Node.TheVariants.{True}
-use Rattle.formula.specs.declared.Item.TheVariants.{Held, Failed}
-use Rattle.formula.specs.Items.{lasting, is_always, looks_back, back_below, items_at, items_below, kept_items}
+use Rattle.formula.specs.Items.{looks_back, back_below, items_at, items_below, kept_items}
 use Rattle.formula.specs.Resting.{resting, Rested}
 use Rattle.formula.proofs.Marks.{length-resting}
 
@@ -44,9 +43,7 @@ module _ (nodes : List Node) (used used' : List Bool) (same : (i : ℕ) → get_
       ∙ ap (λ u. back_below nodes used' k i || (u && looks_back i (get_or nodes k True))) (same k)
 
   at_same : (i : ℕ) → items_at nodes used i ≡ items_at nodes used' i
-  at_same i =
-      ap (λ b. cond (get_or used i false && (lasting (get_or nodes i True) || b)) (Held i ∷ []) [] ++ cond (get_or used i false && is_always (get_or nodes i True)) (Failed i ∷ []) []) (back_same (length nodes) i)
-      ∙ ap (λ u. cond (u && (lasting (get_or nodes i True) || back_below nodes used' (length nodes) i)) (Held i ∷ []) [] ++ cond (u && is_always (get_or nodes i True)) (Failed i ∷ []) []) (same i)
+  at_same i = search rules
 
   below_same : (k : ℕ) → items_below nodes used k ≡ items_below nodes used' k
   below_same zero = refl

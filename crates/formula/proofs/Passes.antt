@@ -1,40 +1,46 @@
 -- What the passes over marks come to, a step on and at the end.
-use Rattle.std.proofs.Common.{◌≡◌, ℕ, suc, ◌+◌, ◌-◌, ◌<◌, ◌≤◌, Bool, true, false, cond, ◌&&◌, ◌||◌, ltb, List, ◌++◌, length, get_or, take, drop, set, replicate, sym, ap, ◌∙◌, arith}
-use Rattle.std.proofs.lemmas.List.{get_or_past, get_or_default, at_drop_more, at_drop_all, take-replicate, drop-replicate}
-use Rattle.std.proofs.lemmas.Bool.{le-ltb, cond-true, cond-false}
+use Rattle.std.proofs.Common.{◌≡◌, ℕ, suc, ◌+◌, ◌-◌, ◌<◌, ◌≤◌, Bool, true, false, cond, ◌&&◌, ◌||◌, List, [], ◌∷◌, ◌++◌, length, get_or, take, drop, replicate, sym, refl, ap, ◌∙◌, arith}
+use Rattle.std.proofs.lemmas.List.{get_or_default, get_or-take, get_or_push, length_push, take_at, take-take, take-replicate, drop-replicate}
+use Rattle.std.proofs.lemmas.Bool.{cond-true, cond-false}
 use Rattle.formula.specs.declared.Node.{Node}
 use Rattle.formula.specs.declared.Node.TheVariants.{True}
 use Rattle.formula.specs.Items.{looks_back, back_below}
 use Rattle.formula.specs.Resting.{operands, all_marked, spread, resting}
 
-pub past_unmarked : (ms : List Bool) (i : ℕ) → length ms ≤ i → ltb i (length ms) ≡ get_or ms i false
-past_unmarked ms i l = le-ltb i (length ms) l ∙ sym (get_or_past ms i false l)
+-- the nodes that the pass from the highest down has left are the first ones
+abbrev pub Left : List Node → List Node → Type 0
+Left nodes rest = rest ≡ take (length rest) nodes
 
-pub all_marked_more : (ms ms' : List Bool) (as' : List ℕ) (i : ℕ) → i < length as' → ms' ≡ set ms (get_or as' i 0) true → all_marked ms' (drop (i + 1) as') ≡ all_marked ms (drop i as')
-all_marked_more ms ms' as' i l e =
-    let step : all_marked ms (drop i as') ≡ all_marked (set ms (get_or as' i 0) true) (drop (i + 1) as') =
-    at_drop_more (all_marked ms) as' i 0 l in
-    ap (λ m. all_marked m (drop (i + 1) as')) e ∙ sym step
+module _ (nodes rest rest' : List Node) (n : Node) (left : Left nodes rest) (next : rest ≡ rest' ++ (n ∷ [])) where
+  long : length rest ≡ suc (length rest')
+  long = omega (arith, ap length next, length_push rest' n)
 
-pub all_marked_end : (ms : List Bool) (as' : List ℕ) (i : ℕ) → length as' ≤ i → ms ≡ all_marked ms (drop i as')
-all_marked_end ms as' i l = sym (at_drop_all (all_marked ms) as' i l)
+  pub still_left : Left nodes rest'
+  still_left =
+      sym (take_at rest' (n ∷ []) (length rest') refl)
+      ∙ ap (take (length rest')) (sym next ∙ left)
+      ∙ take-take (length rest') (length rest) nodes (omega (arith, long))
 
-spread_down : (nodes : List Node) (ms : List Bool) (i : ℕ) → 0 < i → spread nodes i ms ≡ spread nodes (i - 1) (cond (get_or ms (i - 1) false) (all_marked ms (operands (get_or nodes (i - 1) True))) ms)
-spread_down nodes ms i l =
-    let e : suc (i - 1) ≡ i = omega arith in ap (λ (j : ℕ). spread nodes j ms) (sym e)
+  last_is : n ≡ get_or nodes (length rest') True
+  last_is =
+      sym (get_or_push rest' n True (length rest') refl)
+      ∙ ap (λ l. get_or l (length rest') True) (sym next ∙ left)
+      ∙ get_or-take (length rest) nodes (length rest') True (omega (arith, long))
 
--- node i - 1 is marked, and so are its operands
-pub spread_marked : (nodes : List Node) (ms ms' : List Bool) (i : ℕ) (d : Node) → 0 < i → i ≤ length nodes → get_or ms (i - 1) false ≡ true → ms' ≡ all_marked ms (operands (get_or nodes (i - 1) d)) → spread nodes (i - 1) ms' ≡ spread nodes i ms
-spread_marked nodes ms ms' i d l m here e =
-    let same = get_or_default nodes (i - 1) d True (omega arith) in
-    ap (spread nodes (i - 1)) (e ∙ ap (λ n. all_marked ms (operands n)) same ∙ sym (cond-true (get_or ms (i - 1) false) (all_marked ms (operands (get_or nodes (i - 1) True))) ms here))
-    ∙ sym (spread_down nodes ms i l)
+  step_is : (ms : List Bool) → spread nodes (length rest) ms ≡ spread nodes (length rest') (cond (get_or ms (length rest') false) (all_marked ms (operands n)) ms)
+  step_is ms =
+      ap (λ k. spread nodes k ms) long
+      ∙ ap (λ m. spread nodes (length rest') (cond (get_or ms (length rest') false) (all_marked ms (operands m)) ms)) (sym last_is)
 
--- or it is not
-pub spread_unmarked : (nodes : List Node) (ms : List Bool) (i : ℕ) → 0 < i → get_or ms (i - 1) false ≡ false → spread nodes (i - 1) ms ≡ spread nodes i ms
-spread_unmarked nodes ms i l here =
-    ap (spread nodes (i - 1)) (sym (cond-false (get_or ms (i - 1) false) (all_marked ms (operands (get_or nodes (i - 1) True))) ms here))
-    ∙ sym (spread_down nodes ms i l)
+  -- node i is marked, and so are its operands
+  pub spread_marked : (ms ms' : List Bool) → get_or ms (length rest') false ≡ true → ms' ≡ all_marked ms (operands n) → spread nodes (length rest') ms' ≡ spread nodes (length rest) ms
+  spread_marked ms ms' here e =
+      ap (spread nodes (length rest')) (e ∙ sym (cond-true (get_or ms (length rest') false) (all_marked ms (operands n)) ms here)) ∙ sym (step_is ms)
+
+  -- or it is not
+  pub spread_unmarked : (ms : List Bool) → get_or ms (length rest') false ≡ false → spread nodes (length rest') ms ≡ spread nodes (length rest) ms
+  spread_unmarked ms here =
+      ap (spread nodes (length rest')) (sym (cond-false (get_or ms (length rest') false) (all_marked ms (operands n)) ms here)) ∙ sym (step_is ms)
 
 -- both passes, in the front of a table of 128
 pub rested : (nodes : List Node) (roots : List ℕ) (ms last : List Bool) (k : ℕ) → length nodes ≤ 128 → k ≡ length nodes → ms ≡ all_marked (take k (replicate 128 false)) roots → last ≡ spread nodes (length nodes) ms → last ++ drop k (replicate 128 false) ≡ resting nodes roots ++ replicate (128 - length nodes) false

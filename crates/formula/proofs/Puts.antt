@@ -1,6 +1,6 @@
 -- What the pass over the nodes puts into the table of items, a step on, at the end and where there is no room.
-use Rattle.std.proofs.Common.{◌≡◌, ℕ, zero, suc, ◌+◌, ◌<◌, ◌≤◌, Bool, true, false, cond, ◌&&◌, ◌||◌, List, [], ◌∷◌, ◌++◌, length, get_or, take, drop, set, Some, None, Option, sym, refl, ap, ◌∙◌, subst, inl, inr, arith}
-use Rattle.std.proofs.lemmas.List.{append-nil, append_assoc, length-append, length-take-le, get_or_default, take_at, take_all, take_more_set, drop-set-lt}
+use Rattle.std.proofs.Common.{◌≡◌, ℕ, zero, suc, ◌+◌, ◌<◌, ◌≤◌, Bool, true, false, cond, ◌&&◌, ◌||◌, List, [], ◌∷◌, ◌++◌, length, get_or, take, drop, set, Some, None, Option, sym, refl, ap, ◌∙◌, subst, inl, inr, arith, rules}
+use Rattle.std.proofs.lemmas.List.{append-nil, append_assoc, length-append, get_or_default, take_at, take_all, take_more_set, drop-set-lt}
 use Rattle.std.proofs.lemmas.Bool.{both_ways, cases_lt}
 use Rattle.register.proofs.Counting.{drop_further}
 use Rattle.formula.specs.declared.Node.{Node}
@@ -42,9 +42,7 @@ put_over start items xs rest kept b x len (fits, first, rest-is, long) over all 
 module _ (nodes : List Node) (used : List Bool) where
   -- the items of the nodes below i come first
   front : (k i : ℕ) → i ≤ k → (rest : List Item) × (items_below nodes used k ≡ items_below nodes used i ++ rest)
-  front zero i l =
-      let e : zero ≡ i = omega arith in
-      ([], ap (items_below nodes used) e ∙ sym (append-nil (items_below nodes used i)))
+  front zero i l = search rules
   front (suc k) i l =
       elim (cases_lt i (suc k)) [
         | inl low ↦
@@ -98,6 +96,4 @@ module _ (nodes : List Node) (used : List Bool) where
         subst (Keeps nodes used start items') (sym r-is) (inr (few, s.0, same ∙ s.1))
 
   pub kept_all : (start items : List Item) (len i : ℕ) → length nodes ≤ 128 → i ≡ length nodes → Filled start items len (items_below nodes used i) → Keeps nodes used start items (Some len)
-  kept_all start items len i few end (fits, first, rest, long) =
-      let all : take len items ≡ kept_items nodes used = first ∙ ap (items_below nodes used) end in
-      (few, omega arith, sym (length-take-le len items fits) ∙ ap length all, all, rest)
+  kept_all start items len i few end (fits, first, rest, long) = search rules

@@ -1,5 +1,5 @@
 -- Merging in tables: one word more, all words, and a word whose node finds no room.
-use Rattle.std.proofs.Common.{◌≡◌, ℕ, ◌+◌, ◌<◌, ◌≤◌, List, [], ◌∷◌, ◌++◌, length, get_or, take, drop, set, Some, None, Option, sym, refl, ap, ◌∙◌, subst, inr, arith}
+use Rattle.std.proofs.Common.{◌≡◌, ℕ, ◌+◌, ◌<◌, ◌≤◌, List, [], ◌∷◌, ◌++◌, length, get_or, take, drop, set, Some, None, Option, sym, refl, ap, ◌∙◌, subst, inr, arith, rules}
 use Rattle.std.proofs.lemmas.List.{take-append-drop, take_more, take_more_set, take_all, take-take, length-take-le, length_push, length-set, drop-set-lt}
 use Rattle.register.specs.Keys.{place_of, enter}
 use Rattle.register.proofs.Keys.{place_of_le, enter-length, enter_new, enter-take}
@@ -59,19 +59,11 @@ pub record Reached (ws first keys : List Node) (len : ℕ) (old numbers : List �
   pub numbers_long : length numbers ≡ length old
 
 pub reached_none : (ws first : List Node) (len : ℕ) (old : List ℕ) → len ≡ 0 → Reached ws first first len old old 0
-reached_none ws first len old e = record {
-  nodes_are = ap (λ (j : ℕ). take j first) e;
-  nodes_rest = refl;
-  nodes_long = refl;
-  numbers_are = refl;
-  numbers_rest = refl;
-  numbers_long = refl;
-}
+reached_none ws first len old e = search rules
 
 module _ (ws first keys : List Node) (len : ℕ) (old numbers : List ℕ) (i : ℕ) (reached : Reached ws first keys len old numbers i) (fits : len ≤ length keys) (in' : i < length ws) (room : length ws ≤ length old) (node : Node) (k : ℕ) (d : Node) (k-is : k ≡ i) (node-is : node ≡ renumbered (take k numbers) (get_or ws i d)) where
   its_node : node ≡ renumbered (numbers_of (take i ws)) (get_or ws i d)
-  its_node =
-      node-is ∙ ap (λ (j : ℕ). renumbered (take j numbers) (get_or ws i d)) k-is ∙ ap (λ ks. renumbered ks (get_or ws i d)) reached.numbers_are
+  its_node = search rules
 
   more_nodes : nodes_of (take (i + 1) ws) ≡ enter same_node node (take len keys)
   more_nodes =

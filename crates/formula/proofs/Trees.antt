@@ -1,5 +1,5 @@
 -- The trees of a list of nodes: each is the tree of its node over all of them, where operands number earlier nodes.
-use Rattle.std.proofs.Common.{◌≡◌, ℕ, zero, suc, ◌+◌, ◌<◌, ◌≤◌, true, ltb, List, [], ◌∷◌, ◌++◌, length, get_or, sym, refl, ◌∙◌, subst, arith}
+use Rattle.std.proofs.Common.{◌≡◌, ℕ, zero, suc, ◌+◌, ◌<◌, ◌≤◌, true, List, [], ◌∷◌, ◌++◌, length, get_or, sym, refl, ◌∙◌, subst, arith, rules}
 use Rattle.std.proofs.lemmas.List.{length_push, get_or_append_left, get_or_push}
 use Rattle.std.proofs.lemmas.Bool.{and_parts, and_from, ltb-true, lt-ltb}
 use Rattle.formula.specs.declared.Node.{Node}
@@ -11,19 +11,10 @@ pub tree_of_same : (ts us : List Formula) (k : ℕ) (n : Node) → operands_belo
 tree_of_same ts us k (Label p) h same = refl
 tree_of_same ts us k True h same = refl
 tree_of_same ts us k (Not a) h same = let e = same a (ltb-true a k h) in cc
-tree_of_same ts us k (And a b) h same =
-    let p = and_parts (ltb a k) (ltb b k) h in
-    let e = same a (ltb-true a k p.0) in
-    let f = same b (ltb-true b k p.1) in cc
-tree_of_same ts us k (Or a b) h same =
-    let p = and_parts (ltb a k) (ltb b k) h in
-    let e = same a (ltb-true a k p.0) in
-    let f = same b (ltb-true b k p.1) in cc
+tree_of_same ts us k (And a b) h same = search rules
+tree_of_same ts us k (Or a b) h same = search rules
 tree_of_same ts us k (Previous a) h same = let e = same a (ltb-true a k h) in cc
-tree_of_same ts us k (Since a b) h same =
-    let p = and_parts (ltb a k) (ltb b k) h in
-    let e = same a (ltb-true a k p.0) in
-    let f = same b (ltb-true b k p.1) in cc
+tree_of_same ts us k (Since a b) h same = search rules
 tree_of_same ts us k (Always a) h same = let e = same a (ltb-true a k h) in cc
 tree_of_same ts us k (Once a) h same = let e = same a (ltb-true a k h) in cc
 
@@ -54,24 +45,16 @@ pub operands_below_more : (k m : ℕ) (n : Node) → k ≤ m → operands_below 
 operands_below_more k m (Label p) l h = refl
 operands_below_more k m True l h = refl
 operands_below_more k m (Not a) l h = lt-ltb a m (omega (arith, ltb-true a k h))
-operands_below_more k m (And a b) l h =
-    let p = and_parts (ltb a k) (ltb b k) h in
-    and_from (ltb a m) (ltb b m) (lt-ltb a m (omega (arith, ltb-true a k p.0))) (lt-ltb b m (omega (arith, ltb-true b k p.1)))
-operands_below_more k m (Or a b) l h =
-    let p = and_parts (ltb a k) (ltb b k) h in
-    and_from (ltb a m) (ltb b m) (lt-ltb a m (omega (arith, ltb-true a k p.0))) (lt-ltb b m (omega (arith, ltb-true b k p.1)))
+operands_below_more k m (And a b) l h = search rules
+operands_below_more k m (Or a b) l h = search rules
 operands_below_more k m (Previous a) l h = lt-ltb a m (omega (arith, ltb-true a k h))
-operands_below_more k m (Since a b) l h =
-    let p = and_parts (ltb a k) (ltb b k) h in
-    and_from (ltb a m) (ltb b m) (lt-ltb a m (omega (arith, ltb-true a k p.0))) (lt-ltb b m (omega (arith, ltb-true b k p.1)))
+operands_below_more k m (Since a b) l h = search rules
 operands_below_more k m (Always a) l h = lt-ltb a m (omega (arith, ltb-true a k h))
 operands_below_more k m (Once a) l h = lt-ltb a m (omega (arith, ltb-true a k h))
 
 pub earlier_from_at : (k : ℕ) (ns : List Node) (i : ℕ) → earlier_from k ns ≡ true → i < length ns → operands_below (k + i) (get_or ns i True) ≡ true
 earlier_from_at k [] i h l = absurd (omega arith)
-earlier_from_at k (n ∷ ns) zero h l =
-    let e : k ≡ k + 0 = omega arith in
-    subst (λ (j : ℕ). operands_below j n ≡ true) e (and_parts (operands_below k n) (earlier_from (suc k) ns) h).0
+earlier_from_at k (n ∷ ns) zero h l = search rules
 earlier_from_at k (n ∷ ns) (suc i) h l =
     let e : suc k + i ≡ k + suc i = omega arith in
     subst (λ (j : ℕ). operands_below j (get_or ns i True) ≡ true) e
@@ -83,9 +66,7 @@ earlier_at ns i h l =
     subst (λ (j : ℕ). operands_below j (get_or ns i True) ≡ true) e (earlier_from_at 0 ns i h l)
 
 pub earlier_from-push : (k : ℕ) (ns : List Node) (n : Node) → earlier_from k ns ≡ true → operands_below (k + length ns) n ≡ true → earlier_from k (ns ++ (n ∷ [])) ≡ true
-earlier_from-push k [] n h b =
-    let e : k + 0 ≡ k = omega arith in
-    and_from (operands_below k n) true (subst (λ (j : ℕ). operands_below j n ≡ true) e b) refl
+earlier_from-push k [] n h b = search rules
 earlier_from-push k (m ∷ ns) n h b =
     let p = and_parts (operands_below k m) (earlier_from (suc k) ns) h in
     let e : k + suc (length ns) ≡ suc k + length ns = omega arith in

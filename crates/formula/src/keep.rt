@@ -41,6 +41,7 @@ fn looked_back(nodes: &[Node], marks: &[bool]) -> [bool; 128]
 }
 
 // Puts an item at place `len`, if it is wanted, and says where the next goes.
+// The table is lent: a struct of it and `len` needs a lifetime and a clause that it stays the same table, and is no plainer.
 fn put(items: &mut [Item], len: usize, wanted: bool, item: Item) -> Option<usize>
     ensures { Appended (if wanted then item ∷ [] else []) len items.old items.new result }
 {

@@ -34,6 +34,7 @@ pub enum Item {
     Failed(u8),
 }
 
+// By hand, since no variant is without a field.
 impl Default for Item {
     ghost is_default = { λ item. item ≡ Held 0 };
 

@@ -48,9 +48,9 @@ fn mark_all(marks: &mut [bool], places: &[u8])
 fn mark_below(marks: &mut [bool], nodes: &[Node])
     ensures { marks.new ≡ spread nodes.now (length nodes.now) marks.old }
 {
-    for i in (0..nodes.len()).rev() {
+    for (i, node) in nodes.iter().enumerate().rev() {
         if is_marked(marks, i) {
-            mark_operands(marks, nodes[i]);
+            mark_operands(marks, *node);
         }
     }
 }

@@ -1,5 +1,5 @@
 -- The truth lines from one position to the next, and that a verdict rests on the positions up to its own.
-use Rattle.std.proofs.Common.{◌≡◌, ℕ, zero, suc, ◌≤◌, Bool, true, false, not, ◌&&◌, ◌||◌, ltb, refl, ap, ◌∙◌, arith}
+use Rattle.std.proofs.Common.{◌≡◌, ℕ, zero, suc, ◌≤◌, Bool, true, false, not, ◌&&◌, ◌||◌, ltb, refl, ap, ◌∙◌, arith, rules}
 use Rattle.std.proofs.lemmas.Bool.{lt-ltb, le-ltb}
 use Rattle.formula.specs.Formulas.{Formula, atom, truth, negation, conjunction, disjunction, previously, since, always, sometime}
 use Rattle.truth.specs.Truth.{Trace, labelled, all_to, some_to, implies, holds}
@@ -81,7 +81,7 @@ some_to_and zero z P = refl
 some_to_and (suc i) z P = ap (λ x. x || (z && P (suc i))) (some_to_and i z P) ∙ or_and z (some_to i P) (P (suc i))
 
 past_true : (i n : ℕ) (a : Formula) (τ : Trace) → i ≤ n → all_to i (λ m. implies (ltb n m) (holds a τ m)) ≡ true
-past_true zero n a τ le = ap (λ b. implies b (holds a τ zero)) (le-ltb n zero (omega arith))
+past_true zero n a τ le = search rules
 past_true (suc i) n a τ le = λ k. past_true i n a τ (omega arith) k && ap (λ b. implies b (holds a τ (suc i))) (le-ltb n (suc i) le) k
 
 pub since_next : (a b : Formula) (τ : Trace) (i : ℕ) → holds (since a b) τ (suc i) ≡ ((holds a τ (suc i) && holds (since a b) τ i) || holds b τ (suc i))

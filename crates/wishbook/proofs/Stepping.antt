@@ -1,13 +1,12 @@
 -- What one word adds to what was gathered, and that this is a step of the wish book's format.
-use Rattle.std.proofs.Common.{◌≡◌, ℕ, ◌≤◌, Bool, true, false, cond, not, eqb, ltb, List, [], ◌∷◌, ◌++◌, length, Ok, Err, Result, sym, refl, ap, ◌∙◌, subst, arith}
+use Rattle.std.proofs.Common.{◌≡◌, ℕ, ◌≤◌, Bool, true, false, eqb, ltb, List, [], ◌∷◌, ◌++◌, length, Ok, Err, Result, sym, refl, ap, ◌∙◌, subst, arith, rules}
 use Rattle.bounded.specs.Listed.{listed}
 use Rattle.formula.specs.declared.Node.{Node}
 use Rattle.refusal.specs.declared.Refusal.{Refusal}
 use Rattle.refusal.specs.declared.Refusal.TheVariants.{WrongKind}
 use Rattle.words.specs.Words.{kind}
-use Rattle.words.specs.Format.{Step, wrong, more, ends, check, require, onto}
+use Rattle.words.specs.Format.{Step, wrong, more, check, require, onto}
 use Rattle.words.specs.Drafts.{Stepped}
-use Rattle.words.specs.Tests.{none}
 use Rattle.words.specs.declared.reader.Turn.{Turn}
 use Rattle.words.specs.declared.reader.Turn.TheVariants.{End}
 use Rattle.wishlayout.specs.declared.Wish.{Wish}
@@ -40,8 +39,7 @@ Followed g d = draft_of g ≡ d
 
 -- the step of a draft that was reached
 stepped : (g g' : Gathered) (w : ℕ) (d s : Draft) (st : Step Draft) (answer : Result Turn Refusal) → draft_of g ≡ d → Followed g s → read_word d w ≡ st → Stepped Followed d st g' answer → Stepped Followed s (read_word s w) g' answer
-stepped g g' w d s st answer at f is steps =
-    subst (λ s. Stepped Followed s (read_word s w) g' answer) (sym at ∙ f) (subst (λ st. Stepped Followed d st g' answer) (sym is) steps)
+stepped g g' w d s st answer at f is steps = search rules
 
 -- a list with an item more is not empty
 pushed_wishing : (ns : List Node) (ws : List Wish) (x : Wish) → draft_with ns (ws ++ (x ∷ [])) ≡ wishing ns (ws ++ (x ∷ []))
@@ -60,7 +58,7 @@ none_noding ns (w ∷ ws) e = absurd (omega arith)
 
 node_word_is : (ns : List Node) (w : ℕ) → eqb (kind w) 10 ≡ false → read_word (noding ns) w ≡ check (ltb (length ns) 128) WrongKind (onto (node_of (length ns) w) (λ n. more (noding (ns ++ (n ∷ [])))))
 unfolding read_word
-node_word_is ns w isnt = ap (λ b. cond b (check (not (none ns)) WrongKind (read_wish ns [] w)) (check (ltb (length ns) 128) WrongKind (onto (node_of (length ns) w) (λ n. more (noding (ns ++ (n ∷ []))))))) isnt
+node_word_is ns w isnt = search rules
 
 pub by_node : (g g' : Gathered) (w : ℕ) (s : Draft) (answer : Result Turn Refusal) → length (listed g.wishes) ≡ 0 → eqb (kind w) 10 ≡ false → g'.wishes ≡ g.wishes → NodeAdded (listed g.nodes) w (listed g'.nodes) answer → Followed g s → Stepped Followed s (read_word s w) g' answer
 by_node g g' w s answer z isnt same told f =
@@ -73,7 +71,7 @@ by_node g g' w s answer z isnt same told f =
 
 good_draft : (ns : List Node) (ws : List Wish) → length ws ≤ 16 → GoodSoFar ns ws → Good (draft_with ns ws)
 good_draft ns [] few good = good.0
-good_draft ns (w ∷ ws) few good = (good.0, (good.1.1 (omega arith), (omega arith, (few, good.1.0))))
+good_draft ns (w ∷ ws) few good = search rules
 
 draft_good : (ns : List Node) (ws : List Wish) → Good (draft_with ns ws) → GoodSoFar ns ws
 draft_good ns [] good = (good, (refl, λ l. absurd (omega arith)))
@@ -89,7 +87,7 @@ node_good ns ms ws w answer z isnt good told =
 
 first_none : (ns : List Node) (w : ℕ) → length ns ≡ 0 → eqb (kind w) 10 ≡ true → read_word (noding ns) w ≡ wrong WrongKind
 unfolding read_word
-first_none [] w e is = ap (λ b. cond b (wrong WrongKind) (check (ltb 0 128) WrongKind (onto (node_of 0 w) (λ n. more (noding (n ∷ [])))))) is
+first_none [] w e is = search rules
 first_none (n ∷ ns) w e is = absurd (omega arith)
 
 pub by_none : (g g' : Gathered) (w : ℕ) (s : Draft) → length (listed g.wishes) ≡ 0 → eqb (kind w) 10 ≡ true → length (listed g.nodes) ≡ 0 → Followed g s → Stepped Followed s (read_word s w) g' (Err WrongKind)
@@ -98,21 +96,17 @@ by_none g g' w s z is none_yet f =
 
 pub by_end : (g g' : Gathered) (w : ℕ) (s : Draft) → (length (listed g.wishes) ≡ 0 → ⊥) → eqb (kind w) 15 ≡ true → draft_of g' ≡ draft_of g → Followed g s → Stepped Followed s (read_word s w) g' (Ok End)
 unfolding read_word
-by_end g g' w s some is same f =
-    let at = some_wishing (listed g.nodes) (listed g.wishes) some in
-    stepped g g' w (wishing (listed g.nodes) (listed g.wishes)) s ends (Ok End) at f
-    (ap (λ b. cond b ends (check (ltb (length (listed g.wishes)) 16) WrongKind (read_wish (listed g.nodes) (listed g.wishes) w))) is)
-    (refl, same ∙ at)
+by_end g g' w s some is same f = search rules
 
 -- where a wish may come
 first_word_is : (ns : List Node) (w : ℕ) → (length ns ≡ 0 → ⊥) → eqb (kind w) 10 ≡ true → read_word (noding ns) w ≡ read_wish ns [] w
 unfolding read_word
 first_word_is [] w some is = absurd (some refl)
-first_word_is (n ∷ ns) w some is = ap (λ b. cond b (read_wish (n ∷ ns) [] w) (check (ltb (length (n ∷ ns)) 128) WrongKind (onto (node_of (length (n ∷ ns)) w) (λ x. more (noding ((n ∷ ns) ++ (x ∷ []))))))) is
+first_word_is (n ∷ ns) w some is = search rules
 
 next_word_is : (ns : List Node) (ws : List Wish) (w : ℕ) → eqb (kind w) 15 ≡ false → read_word (wishing ns ws) w ≡ check (ltb (length ws) 16) WrongKind (read_wish ns ws w)
 unfolding read_word
-next_word_is ns ws w isnt = ap (λ b. cond b ends (check (ltb (length ws) 16) WrongKind (read_wish ns ws w))) isnt
+next_word_is ns ws w isnt = search rules
 
 -- a wish may come next
 abbrev Wishing : List Node → List Wish → ℕ → Type 0

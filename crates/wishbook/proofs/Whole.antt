@@ -1,5 +1,5 @@
 -- From what was gathered to the book: the items, that the book is what its words come to, and what the reader answers.
-use Rattle.std.proofs.Common.{◌≡◌, ℕ, ◌<◌, ◌≤◌, true, cond, ltb, leb, List, [], ◌∷◌, map, length, get_or, take, Some, None, Ok, Err, Option, Result, sym, refl, ap, ◌∙◌, subst, inl, inr, arith}
+use Rattle.std.proofs.Common.{◌≡◌, ℕ, ◌<◌, ◌≤◌, true, cond, ltb, leb, List, [], ◌∷◌, map, length, get_or, take, Some, None, Ok, Err, Option, Result, sym, refl, ap, ◌∙◌, subst, inl, inr, arith, rules}
 use Rattle.formula.specs.declared.Node.{Node}
 use Rattle.formula.specs.Formulas.{earlier}
 use Rattle.formula.specs.Items.{kept_items}
@@ -17,29 +17,14 @@ use Rattle.wishlayout.specs.declared.Wish.{Wish}
 use Rattle.wishlayout.specs.Layout.{Draft, whole_book}
 use Rattle.wishlayout.specs.Wishes.{Wishes, items_for, good_wish}
 use Rattle.wishlayout.proofs.Way.{validly}
+use Rattle.bounded.proofs.Few.{few}
 use Rattle.bounded.specs.Listed.{listed}
-use Rattle.bounded.specs.declared.Bounded.{Bounded}
 use Rattle.refusal.specs.declared.Refusal.{Refusal}
 use Rattle.wishbook.specs.declared.book.WishBook.{WishBook}
 use Rattle.wishbook.specs.declared.gathered.Gathered.{Gathered}
 use Rattle.wishbook.specs.Gathering.{draft_of}
-use Rattle.wishbook.proofs.Stepping.{none_noding, some_wishing}
 use Rattle.wishbook.specs.Book.{renamed, book_of, sound, items_over, meant, SameWishes}
 use Rattle.wishbook.specs.Contents.{contents}
-
--- a book is small
-
-few_of : {X : Type 0} {most : ℕ} (b : Bounded X most) → length (listed b) ≤ most
-few_of {most = most} b = omega (arith, length-take b.len b.places, b.fits)
-
-pub few_nodes : (b : WishBook) → length (contents b).nodes ≤ 128
-few_nodes b = few_of b.nodes
-
-pub few_wishes : (b : WishBook) → length (contents b).wishes ≤ 16
-few_wishes b = few_of b.wishes
-
-pub few_items : (b : WishBook) → length (contents b).items ≤ 16
-few_items b = few_of b.items
 
 -- merging at most 128 words into tables of 128 places always goes
 pub always_merges : {nodes nodes' : List Node} {numbers numbers' : List ℕ} (ns : List Node) → length ns ≤ 128 → length nodes ≡ 128 → length numbers ≡ 128 → Merges ns nodes nodes' numbers numbers' None → ⊥
@@ -96,12 +81,12 @@ module _ (g : Gathered) where
   -- an end word comes only after a wish
   pub unwished : (s : Draft) → length (listed g.wishes) ≡ 0 → draft_of g ≡ s → Finished Means (whole_book s) (Err WrongKind)
   unfolding whole_book
-  unwished s z f = subst (λ s. Finished Means (whole_book s) (Err WrongKind)) (sym (none_noding (listed g.nodes) (listed g.wishes) z) ∙ f) refl
+  unwished s z f = search rules
 
   wished : (s : Draft) (answer : Result WishBook Refusal) → (length (listed g.wishes) ≡ 0 → ⊥) → draft_of g ≡ s
       → Finished Means (cond (leb (length (items_for (listed g.nodes) (listed g.wishes))) 16) (Ok (record { nodes = listed g.nodes; wishes = listed g.wishes })) (Err TooManyItems)) answer → Finished Means (whole_book s) answer
   unfolding whole_book
-  wished s answer some f told = subst (λ s. Finished Means (whole_book s) answer) (sym (some_wishing (listed g.nodes) (listed g.wishes) some) ∙ f) told
+  wished s answer some f told = search rules
 
   pub overfull : (s : Draft) (nodes : List Node) (wishes : List Wish) → (length (listed g.wishes) ≡ 0 → ⊥) → draft_of g ≡ s → nodes ≡ nodes_of (listed g.nodes) → wishes ≡ map (renamed (numbers_of (listed g.nodes))) (listed g.wishes)
       → 16 < length (items_over nodes wishes) → Finished Means (whole_book s) (Err TooManyItems)
@@ -116,7 +101,7 @@ module _ (g : Gathered) where
       let items : listed b.items ≡ items_for (listed g.nodes) (listed g.wishes) = b.remembers ∙ items_known (listed b.nodes) (listed b.wishes) en ew in
       wished s (Ok b) some f
       (subst (λ t. Finished Means (cond t (Ok (record { nodes = listed g.nodes; wishes = listed g.wishes })) (Err TooManyItems)) (Ok b))
-      (sym (le-leb (length (items_for (listed g.nodes) (listed g.wishes))) 16 (omega (arith, ap length items, few_items b))))
+      (sym (le-leb (length (items_for (listed g.nodes) (listed g.wishes))) 16 (omega (arith, ap length items, few b.items))))
       (λ i. record { nodes = en i; wishes = ew i; items = items i }))
 
 -- what merging leaves in its tables

@@ -1,22 +1,20 @@
 -- The layout of wish books is faithful: reading the encoding of a valid book gives that book back, and whatever is accepted is the
 -- encoding of the book that was read.
-use Rattle.std.proofs.Common.{◌≡◌, ℕ, suc, ◌+◌, ◌^◌, ◌<◌, ◌≤◌, Bool, true, false, cond, not, eqb, ltb, leb, List, [], ◌∷◌, ◌++◌, length, Ok, Err, Result, sym, refl, ap, ◌∙◌, subst, inl, inr, append_assoc, append-nil, arith, length-append}
+use Rattle.std.proofs.Common.{◌≡◌, ℕ, suc, ◌+◌, ◌^◌, ◌<◌, ◌≤◌, true, false, cond, not, eqb, ltb, leb, List, [], ◌∷◌, ◌++◌, length, Ok, sym, refl, ap, ◌∙◌, subst, inl, inr, append_assoc, append-nil, arith, rules, length-append}
 use Rattle.std.proofs.lemmas.List.{length_push}
-use Rattle.std.proofs.lemmas.Bool.{and_parts, and_from, eqb-true, eq-eqb, ne_eqb, ltb-true, lt-ltb, cases_Bool, not-true}
+use Rattle.std.proofs.lemmas.Bool.{and_parts, ltb-true, cases_Bool, not-true}
 use Rattle.formula.specs.declared.Node.{Node}
 use Rattle.formula.specs.Formulas.{operands_below, earlier_from, earlier}
 use Rattle.formula.proofs.Trees.{earlier-push}
-use Rattle.refusal.specs.declared.Refusal.{Refusal}
-use Rattle.refusal.specs.declared.Refusal.TheVariants.{WrongKind, TooManyItems}
+use Rattle.refusal.specs.declared.Refusal.TheVariants.{WrongKind}
 use Rattle.words.specs.Words.{kind, end_word}
 use Rattle.words.specs.Format.{more, ends, check, onto, got, reading, file, Faithful}
 use Rattle.words.specs.Tests.{all, none}
 use Rattle.words.proofs.Reading.{places_right}
 use Rattle.words.proofs.Encoding.{Passes, passes_append, reads_file, only_encodings}
-use Rattle.words.proofs.Fields.{kind_put}
-use Rattle.words.proofs.Tests.{all_push, check_more, check_ends, check_passed, onto_more, onto_ends, within_parts, within_from}
+use Rattle.words.proofs.Tests.{all_push, check_more, onto_more}
 use Rattle.wishlayout.specs.declared.Wish.{Wish}
-use Rattle.wishlayout.specs.OneWord.{node_word, wish_word, node_of, wish_of}
+use Rattle.wishlayout.specs.OneWord.{node_word, wish_word, node_of}
 use Rattle.wishlayout.specs.Wishes.{Wishes, items_for, good_label, good_wish, valid}
 use Rattle.wishlayout.specs.Layout.{node_words, amount_words, wish_words, Draft, noding, wishing, read_wish, read_word, whole_book, wish_format, GoodNodes, Good}
 use Rattle.wishlayout.proofs.OneWords.{node_reads, wish_in_reads, node_kind, node_written, wish_written}
@@ -35,27 +33,17 @@ amount_words_push [] w = refl
 amount_words_push (x ∷ ws) w = ap (λ l. wish_word x ∷ l) (amount_words_push ws w)
 
 same_more : {x y : Draft} → more x ≡ more y → x ≡ y
-same_more e = cc
-
-more_is_no_end : {t : Draft} → more t ≡ ends → ⊥
-more_is_no_end e = let z : ◌≡◌ {A = ℕ} 0 1 = cc in omega arith
+same_more e = search rules
 
 some_nodes : (ns : List Node) → none ns ≡ false → 1 ≤ length ns
-some_nodes [] e = let z : ◌≡◌ {A = ℕ} 0 1 = cc in absurd (omega arith)
-some_nodes (n ∷ ns) e = omega arith
+some_nodes [] e = search rules
+some_nodes (n ∷ ns) e = search rules
 
 abbrev Next : Draft → ℕ → Draft → Type 0
 Next d w t = Good t × (written t ≡ written d ++ (w ∷ []))
 
 wish_next : (ns : List Node) (ws : List Wish) (w : ℕ) (t : Draft) → GoodNodes ns → 1 ≤ length ns → length ws < 16 → all (good_wish (length ns)) ws ≡ true → read_wish ns ws w ≡ more t → Good t × (written t ≡ (node_words ns ++ amount_words ws) ++ (w ∷ []))
-wish_next ns ws w t g some few each e =
-    let said = onto_more (wish_of (length ns) w) (λ x. more (wishing ns (ws ++ (x ∷ [])))) t e in
-    let told = wish_in_reads (length ns) w said.0 said.1.0 in
-    let long = length_push ws said.0 in
-    subst (λ t. Good t × (written t ≡ (node_words ns ++ amount_words ws) ++ (w ∷ []))) (same_more said.1.1) (
-      (g, (some, (omega arith, (omega arith, all_push (good_wish (length ns)) ws said.0 each told.1)))),
-      ap (λ l. node_words ns ++ l) (amount_words_push ws said.0 ∙ ap (λ v. amount_words ws ++ (v ∷ [])) (sym told.0)) ∙ sym (append_assoc (node_words ns) (amount_words ws) (w ∷ [])),
-    )
+wish_next ns ws w t g some few each e = search (rules, wish_in_reads (length ns) w, all_push (good_wish (length ns)) ws, amount_words_push ws, append_assoc (node_words ns) (amount_words ws) (w ∷ []), length_push ws)
 
 pub word_kept : (d t : Draft) (w : ℕ) → Good d → read_word d w ≡ more t → Good t × (written t ≡ written d ++ (w ∷ []))
 unfolding read_word
@@ -75,66 +63,23 @@ word_kept (noding ns) t w g e =
             node_words_push ns said.0 ∙ ap (λ v. node_words ns ++ (v ∷ [])) (sym told.0),
           )
     ]
-word_kept (wishing ns ws) t w g e =
-    elim (cases_Bool (eqb (kind w) 15)) [
-      | inl is ↦ let z : ◌≡◌ {A = ℕ} 0 1 = cc (ap (λ b. cond b ends (check (ltb (length ws) 16) WrongKind (read_wish ns ws w))) is, e) in absurd (omega arith)
-      | inr isnt ↦
-          let room = check_more (ltb (length ws) 16) WrongKind (read_wish ns ws w) t (sym (ap (λ b. cond b ends (check (ltb (length ws) 16) WrongKind (read_wish ns ws w))) isnt) ∙ e) in
-          wish_next ns ws w t g.0 g.1.0 (ltb-true (length ws) 16 room.0) g.1.1.1.1 room.1
-    ]
-
-wish_no_end : (ns : List Node) (ws : List Wish) (w : ℕ) → read_wish ns ws w ≡ ends → ⊥
-wish_no_end ns ws w e = more_is_no_end (onto_ends (wish_of (length ns) w) (λ x. more (wishing ns (ws ++ (x ∷ [])))) e).1.1
+word_kept (wishing ns ws) t w g e = search (rules, wish_next ns ws w t)
 
 end_word_reads : (d : Draft) (w : ℕ) → w < 2 ^ 32 → Good d → read_word d w ≡ ends → kind w ≡ 15
 unfolding read_word
-end_word_reads (noding ns) w low g e =
-    elim (cases_Bool (eqb (kind w) 10)) [
-      | inl is ↦ absurd (wish_no_end ns [] w (check_ends (not (none ns)) WrongKind (read_wish ns [] w) (sym (ap (λ b. cond b (check (not (none ns)) WrongKind (read_wish ns [] w)) (check (ltb (length ns) 128) WrongKind (onto (node_of (length ns) w) (λ n. more (noding (ns ++ (n ∷ []))))))) is) ∙ e)).1)
-      | inr isnt ↦
-          let room = check_ends (ltb (length ns) 128) WrongKind (onto (node_of (length ns) w) (λ n. more (noding (ns ++ (n ∷ []))))) (sym (ap (λ b. cond b (check (not (none ns)) WrongKind (read_wish ns [] w)) (check (ltb (length ns) 128) WrongKind (onto (node_of (length ns) w) (λ n. more (noding (ns ++ (n ∷ []))))))) isnt) ∙ e) in
-          absurd (more_is_no_end (onto_ends (node_of (length ns) w) (λ n. more (noding (ns ++ (n ∷ [])))) room.1).1.1)
-    ]
-end_word_reads (wishing ns ws) w low g e =
-    elim (cases_Bool (eqb (kind w) 15)) [
-      | inl is ↦ eqb-true (kind w) 15 is
-      | inr isnt ↦ absurd (wish_no_end ns ws w (check_ends (ltb (length ws) 16) WrongKind (read_wish ns ws w) (sym (ap (λ b. cond b ends (check (ltb (length ws) 16) WrongKind (read_wish ns ws w))) isnt) ∙ e)).1)
-    ]
-
-abbrev choice : Bool → Wishes → Result Wishes Refusal
-choice t b = cond t (Ok b) (Err TooManyItems)
-
-same_book : {x y : Wishes} → ◌≡◌ {A = Result Wishes Refusal} (Ok x) (Ok y) → x ≡ y
-same_book e = cc
+end_word_reads (noding ns) w low g e = search rules
+end_word_reads (wishing ns ws) w low g e = search rules
 
 book_kept : (d : Draft) (b : Wishes) → Good d → whole_book d ≡ Ok b → (valid b ≡ true) × (written d ≡ wish_words b)
 unfolding whole_book
-book_kept (noding ns) b g e = let z : ◌≡◌ {A = ℕ} 0 1 = cc in absurd (omega arith)
-book_kept (wishing ns ws) b g e =
-    elim (cases_Bool (leb (length (items_for ns ws)) 16)) [
-      | inr never ↦ let z : ◌≡◌ {A = ℕ} 0 1 = cc (ap (λ t. choice t (record { nodes = ns; wishes = ws })) never, e) in absurd (omega arith)
-      | inl few ↦
-          let same : record { nodes = ns; wishes = ws } ≡ b = same_book (sym (ap (λ t. choice t (record { nodes = ns; wishes = ws })) few) ∙ e) in
-          subst (λ b. (valid b ≡ true) × (written (wishing ns ws) ≡ wish_words b)) same (
-            and_from _ _ (within_from 1 128 (length ns) g.1.0 g.0.1.1)
-                (and_from _ _ g.0.0
-                (and_from _ _ g.0.1.0
-                (and_from _ _ (within_from 1 16 (length ws) g.1.1.0 g.1.1.1.0)
-                (and_from _ _ g.1.1.1.1 few)))),
-            refl,
-          )
-    ]
+book_kept (noding ns) b g e = search rules
+book_kept (wishing ns ws) b g e = search rules
 
 -- the way of a valid book
 
 node_step : (before : List Node) (n : Node) → length before < 128 → operands_below (length before) n ≡ true → good_label n ≡ true → read_word (noding before) (node_word n) ≡ more (noding (before ++ (n ∷ [])))
 unfolding read_word
-node_step before n room o l =
-    let k = node_kind (length before) n (omega arith) o l in
-    let isnt : eqb (kind (node_word n)) 10 ≡ false = ne_eqb (kind (node_word n)) 10 (λ e. omega (arith, k.0, e)) in
-    ap (λ b. cond b (check (not (none before)) WrongKind (read_wish before [] (node_word n))) (check (ltb (length before) 128) WrongKind (onto (node_of (length before) (node_word n)) (λ n. more (noding (before ++ (n ∷ []))))))) isnt
-    ∙ check_passed (ltb (length before) 128) WrongKind (onto (node_of (length before) (node_word n)) (λ n. more (noding (before ++ (n ∷ []))))) (lt-ltb (length before) 128 room)
-    ∙ ap (λ s. onto s (λ n. more (noding (before ++ (n ∷ []))))) (node_written (length before) n (omega arith) o l)
+node_step before n room o l = search (rules, node_kind (length before) n, node_written (length before) n)
 
 way_nodes : (before rest : List Node) → earlier_from (length before) rest ≡ true → all good_label rest ≡ true → length before + length rest ≤ 128 → Passes wish_format (noding before) (node_words rest) (noding (before ++ rest))
 way_nodes before [] o l few = ap noding (sym (append-nil before))
@@ -156,19 +101,11 @@ way_nodes before (n ∷ rest) o l few =
 
 first_wish : (n : Node) (ns : List Node) (w : Wish) → length (n ∷ ns) ≤ 128 → good_wish (length (n ∷ ns)) w ≡ true → read_word (noding (n ∷ ns)) (wish_word w) ≡ more (wishing (n ∷ ns) (w ∷ []))
 unfolding read_word
-first_wish n ns w few good =
-    let told = wish_written (length (n ∷ ns)) w few good in
-    ap (λ b. cond b (read_wish (n ∷ ns) [] (wish_word w)) (check (ltb (length (n ∷ ns)) 128) WrongKind (onto (node_of (length (n ∷ ns)) (wish_word w)) (λ x. more (noding ((n ∷ ns) ++ (x ∷ []))))))) (eq-eqb (kind (wish_word w)) 10 told.1.0)
-    ∙ ap (λ s. onto s (λ x. more (wishing (n ∷ ns) (x ∷ [])))) told.0
+first_wish n ns w few good = search (rules, wish_written (length (n ∷ ns)) w)
 
 wish_step : (ns : List Node) (before : List Wish) (w : Wish) → length ns ≤ 128 → length before < 16 → good_wish (length ns) w ≡ true → read_word (wishing ns before) (wish_word w) ≡ more (wishing ns (before ++ (w ∷ [])))
 unfolding read_word
-wish_step ns before w few room good =
-    let told = wish_written (length ns) w few good in
-    let isnt : eqb (kind (wish_word w)) 15 ≡ false = ne_eqb (kind (wish_word w)) 15 (λ e. omega (arith, told.1.0, e)) in
-    ap (λ b. cond b ends (check (ltb (length before) 16) WrongKind (read_wish ns before (wish_word w)))) isnt
-    ∙ check_passed (ltb (length before) 16) WrongKind (read_wish ns before (wish_word w)) (lt-ltb (length before) 16 room)
-    ∙ ap (λ s. onto s (λ x. more (wishing ns (before ++ (x ∷ []))))) told.0
+wish_step ns before w few room good = search (rules, wish_written (length ns) w)
 
 way_wishes : (ns : List Node) (before rest : List Wish) → length ns ≤ 128 → all (good_wish (length ns)) rest ≡ true → length before + length rest ≤ 16 → Passes wish_format (wishing ns before) (amount_words rest) (wishing ns (before ++ rest))
 way_wishes ns before [] few good room = ap (wishing ns) (sym (append-nil before))
@@ -189,11 +126,11 @@ way_wishes ns before (w ∷ rest) few good room =
 
 end_step : (ns : List Node) (ws : List Wish) (n : ℕ) → n < 2 ^ 28 → read_word (wishing ns ws) (end_word n) ≡ ends
 unfolding read_word
-end_step ns ws n low = ap (λ b. cond b ends (check (ltb (length ws) 16) WrongKind (read_wish ns ws (end_word n)))) (eq-eqb (kind (end_word n)) 15 (kind_put n 15 low))
+end_step ns ws n low = search rules
 
 book_step : (ns : List Node) (ws : List Wish) → leb (length (items_for ns ws)) 16 ≡ true → whole_book (wishing ns ws) ≡ Ok (record { nodes = ns; wishes = ws })
 unfolding whole_book
-book_step ns ws few = ap (λ t. choice t (record { nodes = ns; wishes = ws })) few
+book_step ns ws few = search rules
 
 length-nodes : (ns : List Node) → length (node_words ns) ≡ length ns
 length-nodes [] = refl
@@ -215,15 +152,7 @@ pub record Validly (b : Wishes) : Type 0 where
   pub items : leb (length (items_for b.nodes b.wishes)) 16 ≡ true
 
 pub validly : (b : Wishes) → valid b ≡ true → Validly b
-validly b e =
-    let a = and_parts _ _ e in
-    let c = and_parts _ _ a.1 in
-    let d = and_parts _ _ c.1 in
-    let f = and_parts _ _ d.1 in
-    let h = and_parts _ _ f.1 in
-    let n = within_parts 1 128 (length b.nodes) a.0 in
-    let w = within_parts 1 16 (length b.wishes) f.0 in
-    record { nodes_some = n.0; nodes_few = n.1; operands = c.0; labels = d.0; wishes_some = w.0; wishes_few = w.1; amounts = h.0; items = h.1 }
+validly b e = search rules
 
 reads_back_from : (ns : List Node) (ws : List Wish) → Validly (record { nodes = ns; wishes = ws }) → reading wish_format (file (wish_words (record { nodes = ns; wishes = ws }))) ≡ got (record { nodes = ns; wishes = ws })
 reads_back_from [] ws v = absurd (omega (arith, v.nodes_some))

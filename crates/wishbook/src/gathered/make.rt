@@ -23,7 +23,7 @@ pub(super) fn merged(words: &Bounded<Node, 128>) -> (Bounded<Node, 128>, Bounded
     )
 }
 
-// The wishes, each by the number of its node.
+// The wishes, each by the number of its node. A bounded list is filled by `push`: nothing collects into one.
 pub(super) fn rename_all(wishes: &Bounded<Wish, 16>, numbers: &[u8]) -> Bounded<Wish, 16>
     ensures { listed result ≡ map (renamed numbers.now) (listed wishes.now) }
 {

@@ -1,6 +1,6 @@
 // Gathering follows the draft of the wish book's format.
 ghost use Rattle.bounded.specs.Listed.{listed};
-ghost use Rattle.std.specs.Prelude.{◌≡◌, ◌≤◌};
+ghost use Rattle.std.specs.Prelude.{◌≡◌};
 ghost use Rattle.wishbook.specs.Book.{book_of};
 ghost use Rattle.wishbook.specs.Contents.{contents};
 ghost use Rattle.wishbook.specs.Gathering.{draft_of};
@@ -30,14 +30,13 @@ fn add_node(nodes: &mut Bounded<Node, 128>, word: u32) -> Result<Turn, Refusal>
 }
 
 // One wish more, after `count` node words.
-fn add_wish(wishes: &mut Bounded<Wish, 16>, count: usize, word: u32) -> Result<Turn, Refusal>
-    requires { count ≤ 128 }
+fn add_wish(wishes: &mut Bounded<Wish, 16>, count: u32, word: u32) -> Result<Turn, Refusal>
     ensures { WishAdded count (listed wishes.old) word (listed wishes.new) result }
 {
     if wishes.len() >= 16 {
         return Err(Refusal::WrongKind);
     }
-    let wish = read_wish_word(word, count as u32)?;
+    let wish = read_wish_word(word, count)?;
     let _ = wishes.push(wish);
     Ok(Turn::More)
 }
@@ -76,10 +75,10 @@ impl Draft for Gathered {
         } else if kind == END {
             return Ok(Turn::End);
         }
-        add_wish(&mut self.wishes, count, word)
+        add_wish(&mut self.wishes, count as u32, word)
     }
 
-    // Equal nodes are merged, and the items that are kept are found. Not every end word comes after a wish.
+    // Equal nodes are merged, and the items that are kept are found. A book has a wish.
     fn finish(self) -> Result<WishBook, Refusal> {
         if self.wishes.is_empty() {
             return Err(Refusal::WrongKind);
