@@ -449,25 +449,29 @@ static KINDS: [MayCome; 7] = [
 #[test]
 fn fields(rt: HostRuntime) -> Result<(), Fail> {
     let heap = rt.alloc();
-    edits(heap, Reader::Rule, &BASE, &HEADS)?;
-    edits(heap, Reader::Rule, &BASE, &ACTIONS)?;
-    edits(heap, Reader::Rule, &BASE, &OUTCOMES)?;
-    edits(heap, Reader::Rule, &TEN, &NEEDS)?;
-    edits(heap, Reader::Rule, &EIGHT, &FULL)?;
-    edits(heap, Reader::Rule, &MANY, &WIDTHS)?;
-    weighings(heap, Reader::Rule, &MANY, (2, 0x80000000, 0, 20), &WEIGHTS)
+    let many = Bench::new(heap, Rule, &MANY)?;
+    let base = Bench::new(heap, Rule, &BASE)?;
+    base.edits(&HEADS)?;
+    base.edits(&ACTIONS)?;
+    base.edits(&OUTCOMES)?;
+    Bench::new(heap, Rule, &TEN)?.edits(&NEEDS)?;
+    Bench::new(heap, Rule, &EIGHT)?.edits(&FULL)?;
+    many.edits(&WIDTHS)?;
+    many.weighings((2, 0x80000000, 0, 20), &WEIGHTS)
 }
 
 #[test]
 fn bits_and_kinds(rt: HostRuntime) -> Result<(), Fail> {
     let heap = rt.alloc();
-    unused_bits(heap, Reader::Rule, &BASE, &UNUSED)?;
-    wrong_kinds(heap, Reader::Rule, &BASE, &KINDS)
+    let base = Bench::new(heap, Rule, &BASE)?;
+    base.unused_bits(&UNUSED)?;
+    base.wrong_kinds(&KINDS)
 }
 
 #[test]
 fn ends(rt: HostRuntime) -> Result<(), Fail> {
     let heap = rt.alloc();
-    endings(heap, Reader::Rule, &BASE, &ENDINGS)?;
-    cuts(heap, Reader::Rule, &BASE)
+    let base = Bench::new(heap, Rule, &BASE)?;
+    base.endings(&ENDINGS)?;
+    base.cuts()
 }

@@ -596,42 +596,46 @@ fn book_of(
 #[test]
 fn fields(rt: HostRuntime) -> Result<(), Fail> {
     let heap = rt.alloc();
-    edits(heap, Reader::Site, &CROSSING, &HEADS)?;
-    edits(heap, Reader::Site, &CROSSING, &STATES)?;
-    edits(heap, Reader::Site, &CROSSING, &ENTRIES)?;
-    edits(heap, Reader::Site, &CROSSING, &OUTCOMES)?;
-    edits(heap, Reader::Site, &WIDE, &WIDTHS)?;
-    edits(heap, Reader::Site, &ONE, &SMALL)?;
-    edits(heap, Reader::Site, &ACTIONS, &LAST_ACTION)?;
-    edits(heap, Reader::Site, &CROSSING, &WHOLES)?;
-    weighings(heap, Reader::Site, &WIDE, (18, 0x50000000, 1, 12), &WEIGHTS)
+    let wide = Bench::new(heap, Site(heap), &WIDE)?;
+    let crossing = Bench::new(heap, Site(heap), &CROSSING)?;
+    crossing.edits(&HEADS)?;
+    crossing.edits(&STATES)?;
+    crossing.edits(&ENTRIES)?;
+    crossing.edits(&OUTCOMES)?;
+    wide.edits(&WIDTHS)?;
+    Bench::new(heap, Site(heap), &ONE)?.edits(&SMALL)?;
+    Bench::new(heap, Site(heap), &ACTIONS)?.edits(&LAST_ACTION)?;
+    crossing.edits(&WHOLES)?;
+    wide.weighings((18, 0x50000000, 1, 12), &WEIGHTS)
 }
 
 #[test]
 fn bits_and_kinds(rt: HostRuntime) -> Result<(), Fail> {
     let heap = rt.alloc();
-    unused_bits(heap, Reader::Site, &CROSSING, &UNUSED)?;
-    wrong_kinds(heap, Reader::Site, &CROSSING, &KINDS)
+    let crossing = Bench::new(heap, Site(heap), &CROSSING)?;
+    crossing.unused_bits(&UNUSED)?;
+    crossing.wrong_kinds(&KINDS)
 }
 
 #[test]
 fn ends(rt: HostRuntime) -> Result<(), Fail> {
     let heap = rt.alloc();
-    endings(heap, Reader::Site, &CROSSING, &ENDINGS)?;
-    cuts(heap, Reader::Site, &CROSSING)
+    let crossing = Bench::new(heap, Site(heap), &CROSSING)?;
+    crossing.endings(&ENDINGS)?;
+    crossing.cuts()
 }
 
 #[test]
 fn sizes(rt: HostRuntime) -> Result<(), Fail> {
     let heap = rt.alloc();
+    let bench = Bench::new(heap, Site(heap), &[])?;
     for row in &LARGE {
         let ((states, actions, outcomes, weight), short, expected) = *row;
         let mut words = book_of(heap, states, actions, outcomes, weight)?;
         words.truncate(words.len().saturating_sub(short));
         close(&mut words)?;
-        let got = answer_to_words(heap, Reader::Site, words.as_slice())?;
-        same(
-            got,
+        bench.words(
+            words.as_slice(),
             expected,
             format_args!(
                 "{states} states, {actions} actions, {outcomes} outcomes, {short} words short"

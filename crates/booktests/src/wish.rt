@@ -420,12 +420,8 @@ fn repeated(
     reward: u32,
 ) -> Result<Vec<u32>, AllocError> {
     let mut words = Vec::new(heap);
-    for _ in 0..nodes {
-        words.push(0x90000000)?;
-    }
-    for _ in 0..rewards {
-        words.push(reward)?;
-    }
+    words.resize(nodes, 0x90000000)?;
+    words.resize(nodes.saturating_add(rewards), reward)?;
     close(&mut words)?;
     Ok(words)
 }
@@ -445,35 +441,38 @@ fn chained(heap: Global, steps: (Step, Step), len: u32, node: u32) -> Result<Vec
 #[test]
 fn fields(rt: HostRuntime) -> Result<(), Fail> {
     let heap = rt.alloc();
-    edits(heap, Reader::Wish, &BASE, &NODES)?;
-    edits(heap, Reader::Wish, &BASE, &REWARDS)?;
-    edits(heap, Reader::Wish, &TWO, &ITEMS)
+    let base = Bench::new(heap, Wish, &BASE)?;
+    base.edits(&NODES)?;
+    base.edits(&REWARDS)?;
+    Bench::new(heap, Wish, &TWO)?.edits(&ITEMS)
 }
 
 #[test]
 fn bits_and_kinds(rt: HostRuntime) -> Result<(), Fail> {
     let heap = rt.alloc();
-    unused_bits(heap, Reader::Wish, &BASE, &UNUSED)?;
-    wrong_kinds(heap, Reader::Wish, &BASE, &KINDS)
+    let base = Bench::new(heap, Wish, &BASE)?;
+    base.unused_bits(&UNUSED)?;
+    base.wrong_kinds(&KINDS)
 }
 
 #[test]
 fn ends(rt: HostRuntime) -> Result<(), Fail> {
     let heap = rt.alloc();
-    endings(heap, Reader::Wish, &BASE, &ENDINGS)?;
-    endings(heap, Reader::Wish, &SEVENTEEN, &FULL_ENDINGS)?;
-    cuts(heap, Reader::Wish, &BASE)
+    let base = Bench::new(heap, Wish, &BASE)?;
+    base.endings(&ENDINGS)?;
+    Bench::new(heap, Wish, &SEVENTEEN)?.endings(&FULL_ENDINGS)?;
+    base.cuts()
 }
 
 #[test]
 fn sizes(rt: HostRuntime) -> Result<(), Fail> {
     let heap = rt.alloc();
+    let bench = Bench::new(heap, Wish, &[])?;
     for row in &COUNTS {
         let (nodes, rewards, reward, expected) = *row;
         let words = repeated(heap, nodes, rewards, reward)?;
-        let got = answer_to_words(heap, Reader::Wish, words.as_slice())?;
-        same(
-            got,
+        bench.words(
+            words.as_slice(),
             expected,
             format_args!("{nodes} nodes, {rewards} rewards {reward:x}"),
         )?;
@@ -481,9 +480,8 @@ fn sizes(rt: HostRuntime) -> Result<(), Fail> {
     for row in &CHAINS {
         let (name, steps, (len, node), expected) = *row;
         let words = chained(heap, steps, len, node)?;
-        let got = answer_to_words(heap, Reader::Wish, words.as_slice())?;
-        same(
-            got,
+        bench.words(
+            words.as_slice(),
             expected,
             format_args!("{name}, {len} nodes, reward of {node}"),
         )?;

@@ -2,15 +2,16 @@
 
 #![tactic(auto)]
 
+mod failure;
 mod lay;
 
-ghost use Rattle.std.specs.Prelude.{◌<◌, IfSome};
+ghost use Rattle.std.specs.Prelude.{◌<◌, IfOk};
 
+use failure::Failure;
 use model::SiteModel;
-use refusal::Fault;
 use rulebook::read_rule;
 use sitebook::read_site;
-use std::alloc::{AllocError, Global};
+use std::alloc::Global;
 use std::io::{BufRead, BufReader};
 use wishbook::read_wish;
 
@@ -21,105 +22,87 @@ fn main(rt: HostRuntime) -> anyhow::Result<()> {
 fn run(rt: &HostRuntime) -> anyhow::Result<()> {
     let heap = rt.alloc();
     for line in BufReader::new(heap, rt.stdin())?.lines(heap) {
-        let line = line?;
-        let text = answer(heap, line.as_str())?;
-        rt.println(text)?;
+        match answer(heap, line?.as_str()) {
+            Ok(text) => rt.println(text)?,
+            Err(Failure::Memory(error)) => return Err(error.into()),
+            Err(failure) => println!(rt; "{failure}")?,
+        }
     }
     Ok(())
 }
 
 // The answer to one command.
-fn answer(heap: Global, line: &str) -> Result<String, AllocError> {
-    let Some((command, hex)) = line.split_once(' ') else {
-        return String::from_str(heap, "unknown");
+fn answer(heap: Global, line: &str) -> Result<String, Failure> {
+    let Some((command, rest)) = line.split_once(' ') else {
+        return Err(Failure::Unknown);
     };
     if command == "lay" {
-        return lay::answer(heap, hex);
+        return lay::answer(heap, rest);
     }
-    let Some(bytes) = unhex(heap, hex)? else {
-        return String::from_str(heap, "unknown");
-    };
+    let bytes = unhex(heap, rest)?;
     match command {
         "site" => site(heap, bytes.as_slice()),
         "rule" => rule(heap, bytes.as_slice()),
         "wish" => wish(heap, bytes.as_slice()),
-        _ => String::from_str(heap, "unknown"),
+        _ => Err(Failure::Unknown),
     }
 }
 
-fn refused(heap: Global, fault: Fault) -> Result<String, AllocError> {
-    let place = fault.place;
-    match fault.refusal.number() {
-        Some(number) => format!(in heap; "refused {number} {place}"),
-        None => String::from_str(heap, "no memory"),
-    }
+fn wish(heap: Global, bytes: &[u8]) -> Result<String, Failure> {
+    let book = read_wish(bytes)?;
+    Ok(format!(in heap;
+        "ok {} {} {}",
+        book.nodes().len(),
+        book.items().len(),
+        book.wishes().len()
+    )?)
 }
 
-fn wish(heap: Global, bytes: &[u8]) -> Result<String, AllocError> {
-    match read_wish(bytes) {
-        Ok(book) => {
-            let nodes = book.nodes().len();
-            let items = book.items().len();
-            let wishes = book.wishes().len();
-            format!(in heap; "ok {nodes} {items} {wishes}")
-        }
-        Err(fault) => refused(heap, fault),
-    }
+fn rule(heap: Global, bytes: &[u8]) -> Result<String, Failure> {
+    let book = read_rule(bytes)?;
+    let sizes = book.sizes();
+    Ok(format!(in heap;
+        "ok {} {} {} {}",
+        sizes.span,
+        sizes.labels,
+        sizes.actions,
+        book.start()
+    )?)
 }
 
-fn rule(heap: Global, bytes: &[u8]) -> Result<String, AllocError> {
-    match read_rule(bytes) {
-        Ok(book) => {
-            let sizes = book.sizes();
-            let states = sizes.span;
-            let labels = sizes.labels;
-            let actions = sizes.actions;
-            let start = book.start();
-            format!(in heap; "ok {states} {labels} {actions} {start}")
-        }
-        Err(fault) => refused(heap, fault),
-    }
-}
-
-fn site(heap: Global, bytes: &[u8]) -> Result<String, AllocError> {
-    match read_site(heap, bytes) {
-        Ok(book) => {
-            let sizes = book.sizes();
-            let states = sizes.span;
-            let labels = sizes.labels;
-            let actions = sizes.actions;
-            let bound = sizes.bound;
-            format!(in heap; "ok {states} {labels} {actions} {bound}")
-        }
-        Err(fault) => refused(heap, fault),
-    }
+fn site(heap: Global, bytes: &[u8]) -> Result<String, Failure> {
+    let sizes = read_site(heap, bytes)?.sizes();
+    Ok(format!(in heap;
+        "ok {} {} {} {}",
+        sizes.span,
+        sizes.labels,
+        sizes.actions,
+        sizes.bound
+    )?)
 }
 
 // The bytes that hexadecimal digits stand for, two digits a byte; `-` is no byte at all.
-pub fn unhex(heap: Global, text: &str) -> Result<Option<Vec<u8>>, AllocError> {
-    let digits = text.as_bytes();
+pub fn unhex(heap: Global, text: &str) -> Result<Vec<u8>, Failure> {
     let mut bytes = Vec::new(heap);
     if text == "-" {
-        return Ok(Some(bytes));
+        return Ok(bytes);
     }
-    if digits.len() % 2 != 0 {
-        return Ok(None);
-    }
-    for i in 0..digits.len() / 2 {
-        let (Some(high), Some(low)) = (digit(digits[2 * i]), digit(digits[2 * i + 1])) else {
-            return Ok(None);
+    for pair in text.as_bytes().chunks(2) {
+        let [high, low] = pair else {
+            return Err(Failure::Unknown);
         };
-        bytes.push(16 * high + low)?;
+        bytes.push(16 * digit(*high)? + digit(*low)?)?;
     }
-    Ok(Some(bytes))
+    Ok(bytes)
 }
 
-fn digit(c: u8) -> Option<u8>
-    ensures { IfSome result (λ d. d < 16) }
+// Only small letters are digits, so the library's reading of hexadecimal, which takes capitals too, does not serve.
+fn digit(c: u8) -> Result<u8, Failure>
+    ensures { IfOk result (λ d. d < 16) }
 {
     match c {
-        b'0'..=b'9' => Some(c - b'0'),
-        b'a'..=b'f' => Some(c - b'a' + 10),
-        _ => None,
+        b'0'..=b'9' => Ok(c - b'0'),
+        b'a'..=b'f' => Ok(c - b'a' + 10),
+        _ => Err(Failure::Unknown),
     }
 }

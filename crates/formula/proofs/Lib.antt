@@ -9,3 +9,4 @@ pub mod Passes
 pub mod Puts
 pub mod Tables
 pub mod Padded
+pub mod Same

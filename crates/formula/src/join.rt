@@ -9,12 +9,7 @@ use register::Register;
 fn number(numbers: &[u8], a: u8) -> u8
     ensures { result ≡ slice_index numbers.now a }
 {
-    let place = a as usize;
-    if place < numbers.len() {
-        numbers[place]
-    } else {
-        0
-    }
+    numbers.get(a as usize).copied().unwrap_or(0)
 }
 
 // The word with its operands through the numbers of the words before it.
@@ -44,8 +39,8 @@ pub fn merge(words: &[Node], nodes: &mut [Node], numbers: &mut [u8]) -> Option<u
         return None;
     }
     let mut register = Register::new(nodes);
-    for i in 0..words.len() {
-        let node = renumber(&numbers[0..i], words[i]);
+    for (i, word) in words.iter().enumerate() {
+        let node = renumber(&numbers[..i], *word);
         let place = register.enter(node)?;
         numbers[i] = place as u8;
     }

@@ -1,34 +1,21 @@
 ghost use Rattle.std.specs.Prelude.{◌≡◌, ℕ, ◌<◌, false, ◌&&◌, ◌||◌, [], ◌∷◌, length, if◌then◌else◌, slice_index_or};
 ghost use Rattle.formula.specs.Items.{lasting, is_always, looks_back, back_below, kept_items, Appended, Keeps, Selected};
 
-use super::reach::mark;
+use super::reach::{is_marked, mark};
 use super::{Item, Node};
-
-// The mark at place `i`, or none past the end.
-fn marked(marks: &[bool], i: usize) -> bool
-    ensures { result ≡ slice_index_or marks.now i false }
-{
-    i < marks.len() && marks[i]
-}
 
 // Whether the held item of a node is kept.
 fn keeps_held(node: Node, used: bool, back: bool) -> bool
     ensures { result ≡ (used && (lasting node || back)) }
 {
-    match node {
-        Node::Since(_, _) | Node::Once(_) => used,
-        _ => used && back,
-    }
+    used && (back || matches!(node, Node::Since(_, _) | Node::Once(_)))
 }
 
 // Whether its failed item is.
 fn keeps_failed(node: Node, used: bool) -> bool
     ensures { result ≡ (used && is_always node) }
 {
-    match node {
-        Node::Always(_) => used,
-        _ => false,
-    }
+    used && matches!(node, Node::Always(_))
 }
 
 // A previous that is used marks its operand.
@@ -37,7 +24,7 @@ fn look_back(back: &mut [bool], node: Node, used: bool)
 {
     if let Node::Previous(a) = node {
         if used {
-            mark(back, a);
+            mark(back, a.into());
         }
     }
 }
@@ -47,8 +34,8 @@ fn looked_back(nodes: &[Node], marks: &[bool]) -> [bool; 128]
     ensures { (k : ℕ) → k < 128 → slice_index_or result k false ≡ back_below nodes.now marks.now (length nodes.now) k }
 {
     let mut back = [false; 128];
-    for i in 0..nodes.len() {
-        look_back(&mut back, nodes[i], marked(marks, i));
+    for (i, node) in nodes.iter().enumerate() {
+        look_back(&mut back, *node, is_marked(marks, i));
     }
     back
 }
@@ -69,6 +56,7 @@ fn put(items: &mut [Item], len: usize, wanted: bool, item: Item) -> Option<usize
 
 // The items that are kept of the marked nodes, in order, and how many there are.
 // There is no answer for more than 128 nodes, or where the table does not hold them: then it holds the first of them.
+#[tactic(auto, using(crate::proofs::Chosen::selected))]
 pub fn keep_items(nodes: &[Node], marks: &[bool], items: &mut [Item]) -> Option<usize>
     ensures answer { Keeps nodes.now marks.now items.old items.new result }
     ensures selected { Selected nodes.now marks.now (kept_items nodes.now marks.now) }
@@ -78,10 +66,10 @@ pub fn keep_items(nodes: &[Node], marks: &[bool], items: &mut [Item]) -> Option<
     }
     let back = looked_back(nodes, marks);
     let mut len = 0;
-    for i in 0..nodes.len() {
-        let used = marked(marks, i);
-        let held = keeps_held(nodes[i], used, back[i]);
-        let failed = keeps_failed(nodes[i], used);
+    for (i, node) in nodes.iter().enumerate() {
+        let used = is_marked(marks, i);
+        let held = keeps_held(*node, used, back[i]);
+        let failed = keeps_failed(*node, used);
         len = put(items, len, held, Item::Held(i as u8))?;
         len = put(items, len, failed, Item::Failed(i as u8))?;
     }

@@ -1,5 +1,8 @@
 #![tactic(auto)]
 
+ghost use Rattle.formula.specs.declared.Item.TheVariants.{Held};
+ghost use Rattle.std.specs.Prelude.{◌≡◌};
+
 mod join;
 mod keep;
 mod keys;
@@ -7,12 +10,13 @@ mod reach;
 
 pub use join::merge;
 pub use keep::keep_items;
-pub use reach::mark_resting;
+pub use reach::{is_marked, mark, mark_resting};
 
 // A wish as a node: operands are the numbers of earlier nodes. `Since(a, b)` is "a since b".
-#[derive(Clone, Copy)]
+#[derive(Clone, Copy, Debug, PartialEq, Eq, Default)]
 pub enum Node {
     Label(u8),
+    #[default]
     True,
     Not(u8),
     And(u8, u8),
@@ -24,8 +28,16 @@ pub enum Node {
 }
 
 // What is remembered of a node from step to step: whether it held, or whether it ever failed.
-#[derive(Clone, Copy)]
+#[derive(Clone, Copy, Debug, PartialEq, Eq)]
 pub enum Item {
     Held(u8),
     Failed(u8),
+}
+
+impl Default for Item {
+    ghost is_default = { λ item. item ≡ Held 0 };
+
+    fn default() -> Item {
+        Item::Held(0)
+    }
 }

@@ -1,14 +1,20 @@
 ghost use Rattle.formula.specs.Formulas.{earlier};
 ghost use Rattle.formula.specs.Resting.{operands, all_marked, spread, Exact, Rested};
-ghost use Rattle.std.specs.Prelude.{◌≡◌, true, length, slice_set};
+ghost use Rattle.std.specs.Prelude.{◌≡◌, true, false, length, slice_index_or, slice_set};
 
 use super::Node;
 
-// Marks place `a`, unless it is past the end.
-pub(crate) fn mark(marks: &mut [bool], a: u8)
-    ensures { marks.new ≡ slice_set marks.old a true }
+// Whether a place is marked. None is past the end.
+pub fn is_marked(marks: &[bool], place: usize) -> bool
+    ensures { result ≡ slice_index_or marks.now place false }
 {
-    let place = a as usize;
+    marks.get(place).copied().unwrap_or(false)
+}
+
+// Marks a place, unless it is past the end. The contract of `get_mut` does not say what the table becomes.
+pub fn mark(marks: &mut [bool], place: usize)
+    ensures { marks.new ≡ slice_set marks.old place true }
+{
     if place < marks.len() {
         marks[place] = true;
     }
@@ -20,10 +26,12 @@ fn mark_operands(marks: &mut [bool], node: Node)
 {
     match node {
         Node::Label(_) | Node::True => {}
-        Node::Not(a) | Node::Previous(a) | Node::Always(a) | Node::Once(a) => mark(marks, a),
+        Node::Not(a) | Node::Previous(a) | Node::Always(a) | Node::Once(a) => {
+            mark(marks, a.into());
+        }
         Node::And(a, b) | Node::Or(a, b) | Node::Since(a, b) => {
-            mark(marks, a);
-            mark(marks, b);
+            mark(marks, a.into());
+            mark(marks, b.into());
         }
     }
 }
@@ -32,7 +40,7 @@ fn mark_all(marks: &mut [bool], places: &[u8])
     ensures { marks.new ≡ all_marked marks.old places.now }
 {
     for place in places {
-        mark(marks, *place);
+        mark(marks, (*place).into());
     }
 }
 
@@ -41,23 +49,23 @@ fn mark_below(marks: &mut [bool], nodes: &[Node])
     ensures { marks.new ≡ spread nodes.now (length nodes.now) marks.old }
 {
     for i in (0..nodes.len()).rev() {
-        if i < marks.len() && marks[i] {
+        if is_marked(marks, i) {
             mark_operands(marks, nodes[i]);
         }
     }
 }
 
 // For each node, whether some root rests on it; the places past the last node are not marked. There is no answer for more than 128 nodes.
+#[tactic(auto, using(crate::proofs::Marks::exact))]
 pub fn mark_resting(nodes: &[Node], roots: &[u8]) -> Option<[bool; 128]>
     ensures marked { Rested nodes.now roots.now result }
     ensures exact { earlier nodes.now ≡ true → Exact nodes.now roots.now }
 {
-    let n = nodes.len();
-    if n > 128 {
+    if nodes.len() > 128 {
         return None;
     }
     let mut marks = [false; 128];
-    let used = &mut marks[0..n];
+    let used = &mut marks[..nodes.len()];
     mark_all(used, roots);
     mark_below(used, nodes);
     Some(marks)

@@ -9,6 +9,16 @@ ghost use Rattle.ground.specs.declared.GroundBook.TheVariants.{Site, Rule};
 use crate::GroundBook;
 use model::{GroundModel, Numbered, Outcomes, SiteModel, Sizes};
 
+// What either book answers.
+macro_rules! for_both {
+    ($ground:expr, $book:ident => $answer:expr) => {
+        match $ground {
+            GroundBook::Site($book) => $answer,
+            GroundBook::Rule($book) => $answer,
+        }
+    };
+}
+
 impl SiteModel for GroundBook {
     ghost meaning = { ground_model };
 
@@ -18,59 +28,35 @@ impl SiteModel for GroundBook {
     ] };
 
     fn start(&self) -> u64 {
-        match self {
-            GroundBook::Site(book) => book.start(),
-            GroundBook::Rule(book) => book.start(),
-        }
+        for_both!(self, book => book.start())
     }
 
     fn is_state(&self, s: u64) -> bool {
-        match self {
-            GroundBook::Site(book) => book.is_state(s),
-            GroundBook::Rule(book) => book.is_state(s),
-        }
+        for_both!(self, book => book.is_state(s))
     }
 
     fn mask(&self, s: u64) -> u32 {
-        match self {
-            GroundBook::Site(book) => book.mask(s),
-            GroundBook::Rule(book) => book.mask(s),
-        }
+        for_both!(self, book => book.mask(s))
     }
 
     fn reward(&self, s: u64) -> i32 {
-        match self {
-            GroundBook::Site(book) => book.reward(s),
-            GroundBook::Rule(book) => book.reward(s),
-        }
+        for_both!(self, book => book.reward(s))
     }
 
     fn ground(&self, s: u64) -> u64 {
-        match self {
-            GroundBook::Site(book) => book.ground(s),
-            GroundBook::Rule(book) => book.ground(s),
-        }
+        for_both!(self, book => book.ground(s))
     }
 
     fn offers(&self, s: u64, a: u32) -> bool {
-        match self {
-            GroundBook::Site(book) => book.offers(s, a),
-            GroundBook::Rule(book) => book.offers(s, a),
-        }
+        for_both!(self, book => book.offers(s, a))
     }
 
     fn outcomes(&self, s: u64, a: u32) -> Outcomes {
-        match self {
-            GroundBook::Site(book) => book.outcomes(s, a),
-            GroundBook::Rule(book) => book.outcomes(s, a),
-        }
+        for_both!(self, book => book.outcomes(s, a))
     }
 
     fn sizes(&self) -> Sizes {
-        match self {
-            GroundBook::Site(book) => book.sizes(),
-            GroundBook::Rule(book) => book.sizes(),
-        }
+        for_both!(self, book => book.sizes())
     }
 }
 
@@ -88,9 +74,6 @@ impl Numbered for GroundBook {
     ] };
 
     fn count(&self) -> usize {
-        match self {
-            GroundBook::Site(book) => book.count(),
-            GroundBook::Rule(book) => book.count(),
-        }
+        for_both!(self, book => book.count())
     }
 }

@@ -1,13 +1,13 @@
 // The built-in crossing: a three-state site, and the wish "swept and previous train" worth 10.
 use crate::show;
-use anyhow::anyhow;
+use anyhow::Context;
 use ground::GroundBook;
 use model::{SiteModel, reachable_at};
 use pile::{Three, stack, start_of};
-use refusal::Fault;
-use sitebook::{SiteBook, read_site};
+use sitebook::read_site;
 use std::alloc::{AllocError, Global};
-use wishbook::{WishBook, read_wish};
+use truth::shows;
+use wishbook::read_wish;
 
 const SITE: [u32; 18] = [
     0x10084003, 0x20000000, 0x300007D0, 0x20000001, 0x300017D0, 0x20000003, 0x300027D0, 0x40010000,
@@ -34,36 +34,17 @@ fn bytes_of(heap: Global, words: &[u32]) -> Result<Vec<u8>, AllocError> {
 
 // Reads both books, lays the wish on the site, and follows a crossing.
 pub fn run(rt: &HostRuntime) -> anyhow::Result<()> {
+    let heap = rt.alloc();
     println!(rt; "the built-in crossing: label p0 is \"train\", label p1 is \"swept\"")?;
-    let bytes = bytes_of(rt.alloc(), &SITE)?;
-    match read_site(rt.alloc(), bytes.as_slice()) {
-        Ok(site) => {
-            println!(rt; "site book:")?;
-            show::states(rt, &site)?;
-            with_site(rt, site)
-        }
-        Err(fault) => refused(rt, fault),
-    }
-}
-
-fn with_site(rt: &HostRuntime, site: SiteBook) -> anyhow::Result<()> {
-    let bytes = bytes_of(rt.alloc(), &WISH)?;
-    match read_wish(bytes.as_slice()) {
-        Ok(wish) => {
-            println!(rt; "wish book:")?;
-            show::wishes(rt, &wish)?;
-            lay_and_follow(rt, site, wish)
-        }
-        Err(fault) => refused(rt, fault),
-    }
-}
-
-fn lay_and_follow(rt: &HostRuntime, site: SiteBook, wish: WishBook) -> anyhow::Result<()> {
+    let site = read_site(heap, bytes_of(heap, &SITE)?.as_slice())?;
+    println!(rt; "site book:")?;
+    show::states(rt, &site)?;
+    let wish = read_wish(bytes_of(heap, &WISH)?.as_slice())?;
+    println!(rt; "wish book:")?;
+    show::wishes(rt, &wish)?;
     let pile = stack(GroundBook::Site(site), Some(wish), None, None);
     let sizes = pile.sizes();
-    let labels = sizes.labels;
-    let bound = sizes.bound;
-    println!(rt; "the wish laid on the site: {labels} labels, rewards within {bound}")?;
+    println!(rt; "the wish laid on the site: {} labels, rewards within {}", sizes.labels, sizes.bound)?;
     println!(rt; "a crossing with two trains on the bridge at once:")?;
     follow(rt, &pile)
 }
@@ -72,12 +53,9 @@ fn lay_and_follow(rt: &HostRuntime, site: SiteBook, wish: WishBook) -> anyhow::R
 fn follow(rt: &HostRuntime, pile: &Three<GroundBook>) -> anyhow::Result<()> {
     let mut state = start_of(pile);
     slot(rt, pile, 0, state)?;
-    for i in 0..STEPS.len() {
-        let (action, outcome) = STEPS[i];
-        match reachable_at(pile, state, action, outcome) {
-            Some(target) => state = target,
-            None => return Err(anyhow!("the crossing takes an outcome that there is not")),
-        }
+    for (i, (action, outcome)) in STEPS.into_iter().enumerate() {
+        state = reachable_at(pile, state, action, outcome)
+            .context("the crossing takes an outcome that there is not")?;
         slot(rt, pile, i + 1, state)?;
     }
     Ok(())
@@ -92,7 +70,7 @@ fn slot(
     let site = pile.ground(state);
     let memory = state % 65536;
     let reward = pile.reward(state);
-    let holds = if (pile.mask(state) >> 2) % 2 == 1 {
+    let holds = if shows(pile.mask(state), 2) {
         "holds"
     } else {
         "does not hold"
@@ -101,21 +79,4 @@ fn slot(
         "  slot {number}: site state {site}, memory {memory}, the wish {holds}, reward {reward}"
     )?;
     Ok(())
-}
-
-// Says why a book is refused.
-pub fn say_refusal(rt: &HostRuntime, fault: Fault) -> anyhow::Result<()> {
-    let place = fault.place;
-    let sentence = fault.refusal.sentence();
-    match fault.refusal.number() {
-        Some(number) => println!(rt; "refused: {number} at word {place}: {sentence}")?,
-        None => println!(rt; "not read: {sentence}")?,
-    }
-    Ok(())
-}
-
-// The built-in books are good ones: a refusal is an error here.
-pub fn refused(rt: &HostRuntime, fault: Fault) -> anyhow::Result<()> {
-    say_refusal(rt, fault)?;
-    Err(anyhow!("the book was not read"))
 }

@@ -14,8 +14,7 @@ use std::process::ExitCode;
 
 // A refused book and a wrong command line end with status 1 and no more words.
 fn main(rt: HostRuntime) -> anyhow::Result<ExitCode> {
-    let heap = rt.alloc();
-    let mut words = Vec::new(heap);
+    let mut words = Vec::new(rt.alloc());
     for word in env::args(&rt)?.skip(1) {
         words.push(word)?;
     }

@@ -1,41 +1,51 @@
 // Books and formulas as people read them.
 use formula::Node;
-use model::Numbered;
-use std::alloc::{AllocError, Global};
+use model::{Numbered, Outcome};
+use std::fmt;
+use truth::shows;
 use wishbook::WishBook;
 
 // The labels of a mask, as `p0 p3`, or `-` where there are none.
-pub fn labels(heap: Global, mask: u32) -> Result<String, AllocError> {
-    let mut text = String::new(heap);
-    for p in 0..32u32 {
-        if (mask >> p) % 2 == 1 {
-            if !text.as_str().is_empty() {
-                text.push_str(" ")?;
+struct Labels(u32);
+
+impl fmt::Display for Labels {
+    fn fmt<W: fmt::Write>(&self, f: &mut fmt::Formatter<W>) -> fmt::Result {
+        let mut between = "";
+        for p in 0..32u32 {
+            if shows(self.0, p) {
+                write!(f, "{between}p{p}")?;
+                between = " ";
             }
-            text.push_str(format!(in heap; "p{p}")?.as_str())?;
         }
+        if between.is_empty() {
+            f.write_str("-")?;
+        }
+        Ok(())
     }
-    if text.as_str().is_empty() {
-        text.push_str("-")?;
-    }
-    Ok(text)
 }
 
-// The formula of node `i`, which is below `below`.
-pub fn formula(
-    heap: Global,
-    nodes: &[Node],
-    below: usize,
-    i: u8,
-    text: &mut String,
-) -> Result<(), AllocError> {
-    let at = i as usize;
-    if at >= below || at >= nodes.len() {
-        return text.push_str("?");
+// The formula of node `top`.
+struct Formula<'a> {
+    nodes: &'a [Node],
+    top: u8,
+}
+
+impl fmt::Display for Formula<'_> {
+    fn fmt<W: fmt::Write>(&self, f: &mut fmt::Formatter<W>) -> fmt::Result {
+        formula(f, self.nodes, self.top)
     }
-    let (a, word, b) = match nodes[at] {
-        Node::Label(p) => return text.push_str(format!(in heap; "p{p}")?.as_str()),
-        Node::True => return text.push_str("true"),
+}
+
+// The formula of node `i`; operands come before their node.
+fn formula<W: fmt::Write>(f: &mut fmt::Formatter<W>, nodes: &[Node], i: u8) -> fmt::Result {
+    let at = i as usize;
+    let Some(node) = nodes.get(at) else {
+        return f.write_str("?");
+    };
+    let below = &nodes[..at];
+    let (a, word, b) = match *node {
+        Node::Label(p) => return write!(f, "p{p}"),
+        Node::True => return f.write_str("true"),
         Node::Not(a) => (None, "not ", a),
         Node::Previous(a) => (None, "previous ", a),
         Node::Always(a) => (None, "always ", a),
@@ -45,54 +55,56 @@ pub fn formula(
         Node::Since(a, b) => (Some(a), " since ", b),
     };
     let Some(a) = a else {
-        text.push_str(word)?;
-        return formula(heap, nodes, at, b, text);
+        f.write_str(word)?;
+        return formula(f, below, b);
     };
-    text.push_str("(")?;
-    formula(heap, nodes, at, a, text)?;
-    text.push_str(word)?;
-    formula(heap, nodes, at, b, text)?;
-    text.push_str(")")
+    f.write_str("(")?;
+    formula(f, below, a)?;
+    f.write_str(word)?;
+    formula(f, below, b)?;
+    f.write_str(")")
 }
 
 // Each wish of a book: its amount and its formula.
-pub fn wishes(rt: &HostRuntime, book: &WishBook) -> anyhow::Result<()> {
-    let heap = rt.alloc();
+pub fn wishes(rt: &impl Print, book: &WishBook) -> anyhow::Result<()> {
     for wish in book.wishes() {
         let amount = i32::from(wish.raised) - 255;
-        let mut text = String::new(heap);
-        formula(heap, book.nodes(), 128, wish.node, &mut text)?;
+        let text = Formula {
+            nodes: book.nodes(),
+            top: wish.node,
+        };
         println!(rt; "  {amount} for each slot in which it holds: {text}")?;
     }
     Ok(())
 }
 
 // Each state of a model, with its labels and reward, and what each offered action leads to.
-pub fn states<M: Numbered>(rt: &HostRuntime, model: &M) -> anyhow::Result<()> {
+pub fn states<M: Numbered>(rt: &impl Print, model: &M) -> anyhow::Result<()> {
     for s in 0..model.count() as u64 {
-        let mask = labels(rt.alloc(), model.mask(s))?;
+        let labels = Labels(model.mask(s));
         let reward = model.reward(s);
-        println!(rt; "  state {s}: labels {mask}, reward {reward}")?;
+        println!(rt; "  state {s}: labels {labels}, reward {reward}")?;
         for a in 0..model.actions() {
             if model.offers(s, a) {
-                let text = moves(rt.alloc(), model, s, a)?;
-                println!(rt; "    action {a} leads to {text}")?;
+                let outcomes = model.outcomes(s, a);
+                let leads = Leads(outcomes.as_slice());
+                println!(rt; "    action {a} leads to {leads}")?;
             }
         }
     }
     Ok(())
 }
 
-// The outcomes of an action, as `4/8 to state 0, 4/8 to state 1`.
-fn moves<M: Numbered>(heap: Global, model: &M, s: u64, a: u32) -> Result<String, AllocError> {
-    let mut text = String::new(heap);
-    for way in model.outcomes(s, a).as_slice() {
-        if !text.as_str().is_empty() {
-            text.push_str(", ")?;
+// Outcomes, as `4/8 to state 0, 4/8 to state 1`.
+struct Leads<'a>(&'a [Outcome]);
+
+impl fmt::Display for Leads<'_> {
+    fn fmt<W: fmt::Write>(&self, f: &mut fmt::Formatter<W>) -> fmt::Result {
+        let mut between = "";
+        for Outcome { target, weight } in self.0 {
+            write!(f, "{between}{weight}/8 to state {target}")?;
+            between = ", ";
         }
-        let target = way.target;
-        let weight = way.weight;
-        text.push_str(format!(in heap; "{weight}/8 to state {target}")?.as_str())?;
+        Ok(())
     }
-    Ok(text)
 }

@@ -1,12 +1,12 @@
 -- A table that begins with the bytes of words and is 0 after them, or that is too short for them.
-use Rattle.std.specs.Prelude.{◌≡◌, ℕ, ◌-◌, ◌*◌, ◌<◌, ◌≤◌, Bool, true, false, List, ◌++◌, length, replicate}
+use Rattle.std.specs.Prelude.{◌≡◌, ℕ, ◌-◌, ◌*◌, ◌<◌, ◌≤◌, List, ◌++◌, length, Some, None, Option, replicate}
 use Rattle.words.specs.Words.{bytes_of}
 
 -- a list made n long with zeros
 abbrev pub padded : ℕ → List ℕ → List ℕ
 padded n xs = xs ++ replicate (n - length xs) 0
 
--- whether the words were too many, how many there are, and the table
-abbrev pub LaidIn : List ℕ → Bool → ℕ → List ℕ → Type 0
-LaidIn ws false n bytes = (n ≡ length ws) × ((4 * length ws ≤ length bytes) × (bytes ≡ padded (length bytes) (bytes_of ws)))
-LaidIn ws true n bytes = length bytes < 4 * length ws
+-- how many words there are, unless they were too many, and the table
+abbrev pub LaidIn : List ℕ → Option ℕ → List ℕ → Type 0
+LaidIn ws (Some n) bytes = (n ≡ length ws) × ((4 * length ws ≤ length bytes) × (bytes ≡ padded (length bytes) (bytes_of ws)))
+LaidIn ws None bytes = length bytes < 4 * length ws

@@ -4,7 +4,7 @@ use Rattle.pen.specs.declared.Pen.{Pen}
 use Rattle.pen.specs.Bytes.{LaidIn}
 
 abbrev pub Laid : List ℕ → Pen → Type 0
-Laid ws p = LaidIn ws p.full p.words p.bytes.now
+Laid ws p = LaidIn ws p.words p.bytes.now
 
 -- between two moments a pen writes the words ws, into the same table
 pub record Adds (ws : List ℕ) (before after : Pen) : Type 0 where

@@ -2,18 +2,14 @@
 
 #![tactic(auto)]
 
-ghost use Rattle.std.specs.Prelude.{◌*◌, ◌≤◌, length};
+ghost use Rattle.std.specs.Prelude.{◌≡◌, ℕ, ◌*◌, ◌≤◌, length, Some};
 
-mod clean;
 mod write;
 
-pub use clean::wipe;
-
-// The first `words` words of the table are written, and all after them is 0; or they were too many for it, and it is `full`.
+// The words so far stand first in the table, and all after them is 0; or they were too many for it, and nobody counts them.
 #[derive(Drop)]
 pub struct Pen<'a> {
     bytes: &'a mut [u8],
-    words: usize,
-    full: bool,
-    ghost fits: { 4 * words ≤ length bytes.now },
+    words: Option<usize>,
+    ghost fits: { (n : ℕ) → words ≡ Some n → 4 * n ≤ length bytes.now },
 }

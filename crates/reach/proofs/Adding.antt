@@ -1,51 +1,23 @@
 -- Codes are entered one after another, and what a refused one says of the room.
-use Rattle.std.proofs.Common.{◌≡◌, ℕ, zero, suc, ◌+◌, ◌-◌, ◌<◌, ◌≤◌, true, false, eqb, List, [], ◌∷◌, ◌++◌, length, get_or, take, drop, sym, refl, ap, ◌∙◌, subst, arith}
+use Rattle.std.proofs.Common.{◌≡◌, ℕ, zero, suc, ◌+◌, ◌-◌, ◌<◌, ◌≤◌, eqb, List, [], ◌∷◌, ◌++◌, length, get_or, take, drop, sym, refl, ap, ◌∙◌, subst, Ok, Err, Some, None, Option, arith}
 use Rattle.std.proofs.lemmas.List.{length-take-le, length_push, take-append-drop, drop_more, map-append, map_more}
-use Rattle.codes.specs.declared.Codes.{Codes}
-use Rattle.codes.specs.Listed.{listed}
+use Rattle.refusal.specs.declared.Refusal.{Refusal}
+use Rattle.refusal.specs.declared.Refusal.TheVariants.{TooManyStates}
+use Rattle.std.specs.declared.cmp.PartialEq as equality
+use Rattle.register.specs.declared.Key as key
+use Rattle.register.specs.declared.Register.{Register}
+use Rattle.register.specs.Listed.{listed}
 use Rattle.model.specs.declared.Outcome.{Outcome}
 use Rattle.model.specs.Histories.{targets_of}
 use Rattle.model.specs.Models.{Model, Lawful}
-use Rattle.register.specs.Keys.{place_of, enter, enter_all}
+use Rattle.register.specs.Keys.{place_of, enter, enter_all, Entered}
 use Rattle.register.proofs.Counting.{drop_further}
-use Rattle.register.proofs.Keys.{enter_new, enter-length, enter_all-append, enter_all-length}
-use Rattle.reach.specs.Adding.{Onto}
+use Rattle.register.proofs.Keys.{enter_both, enter_new, enter_all-append, enter_all-length}
+use Rattle.reach.specs.Adding.{Added, Onto, room_in}
 use Rattle.reach.specs.Reached.{Lists, Searched}
 use Rattle.reach.specs.Search.{targets_below, leads_to, listed_after, codes_of}
 use Rattle.reach.proofs.Turns.{listed_next, listed_within, listed_complete}
 use Rattle.reach.proofs.Searching.{search_lists, search_exceeds}
-
-pub listed-length : (c : Codes) → length (listed c) ≡ c.len
-listed-length c = length-take-le c.len c.table.now c.fits
-
-pub onto_self : (c : Codes) → Onto c c
-onto_self c = record { more = omega arith; rest = refl; room = refl; lent = refl }
-
-pub onto_both : (a b c : Codes) → Onto a b → Onto b c → Onto a c
-onto_both a b c ab bc = record {
-  more = omega (arith, ab.more, bc.more);
-  rest = bc.rest ∙ drop_further b.table.now a.table.now b.len c.len bc.more ab.rest;
-  room = bc.room ∙ ab.room;
-  lent = bc.lent ∙ ab.lent;
-}
-
--- one code entered
-pub onto_entered : (a b : Codes) (k : ℕ) → listed b ≡ enter eqb k (listed a) → drop b.len b.table.now ≡ drop b.len a.table.now → length b.table.now ≡ length a.table.now → b.table.ghost_name ≡ a.table.ghost_name → Onto a b
-onto_entered a b k e rest room lent = record {
-  more = omega (arith, enter-length eqb k (listed a), ap length e, listed-length a, listed-length b);
-  rest = rest;
-  room = room;
-  lent = lent;
-}
-
--- or refused
-pub onto_same : (a b : Codes) → listed b ≡ listed a → drop b.len b.table.now ≡ drop b.len a.table.now → length b.table.now ≡ length a.table.now → b.table.ghost_name ≡ a.table.ghost_name → Onto a b
-onto_same a b e rest room lent = record {
-  more = omega (arith, ap length e, listed-length a, listed-length b);
-  rest = rest;
-  room = room;
-  lent = lent;
-}
 
 -- one key more
 pub added_more : (held now' after ks : List ℕ) (k : ℕ) → now' ≡ enter_all eqb held ks → after ≡ enter eqb k now' → after ≡ enter_all eqb held (ks ++ (k ∷ []))
@@ -55,12 +27,48 @@ added_more held now' after ks k e f = f ∙ ap (enter eqb k) e ∙ sym (enter_al
 pub added_all : (held now' after ks js : List ℕ) → now' ≡ enter_all eqb held ks → after ≡ enter_all eqb now' js → after ≡ enter_all eqb held (ks ++ js)
 added_all held now' after ks js e f = f ∙ ap (λ l. enter_all eqb l js) e ∙ sym (enter_all-append eqb held ks js)
 
--- a new key that finds no room
-pub over_full : (held now' ks rest : List ℕ) (k room : ℕ) → now' ≡ enter_all eqb held ks → place_of eqb k now' ≡ length now' → length now' ≡ room → room < length (enter_all eqb held (ks ++ (k ∷ rest)))
-over_full held now' ks rest k room e new full =
-    let all : enter_all eqb held (ks ++ (k ∷ rest)) ≡ enter_all eqb (now' ++ (k ∷ [])) rest =
-    enter_all-append eqb held ks (k ∷ rest) ∙ ap (λ l. enter_all eqb (enter eqb k l) rest) (sym e) ∙ ap (λ l. enter_all eqb l rest) (enter_new eqb k now' (omega arith)) in
-    omega (arith, ap length all, enter_all-length eqb (now' ++ (k ∷ [])) rest, length_push now' k)
+module _ {k : key.Ghosts ℕ} {e : equality.Ghosts ℕ} where
+  pub listed-length : (c : Register ℕ k e) → length (listed c) ≡ c.len
+  listed-length c = length-take-le c.len c.keys.now c.fits
+
+  pub onto_self : (c : Register ℕ k e) → Onto c c
+  onto_self c = record { more = omega arith; rest = refl; room = refl; lent = refl }
+
+  pub onto_both : (a b c : Register ℕ k e) → Onto a b → Onto b c → Onto a c
+  onto_both a b c ab bc = record {
+    more = omega (arith, ab.more, bc.more);
+    rest = bc.rest ∙ drop_further b.keys.now a.keys.now b.len c.len bc.more ab.rest;
+    room = bc.room ∙ ab.room;
+    lent = bc.lent ∙ ab.lent;
+  }
+
+  -- codes added after the register was emptied
+  pub cleared_onto : (a b x : Register ℕ k e) → b.len ≡ 0 → b.keys.now ≡ a.keys.now → b.keys.ghost_name ≡ a.keys.ghost_name → Onto b x → (drop x.len x.keys.now ≡ drop x.len a.keys.now) × (length x.keys.now ≡ length a.keys.now) × (x.keys.ghost_name ≡ a.keys.ghost_name)
+  cleared_onto a b x empty same lent onto = (onto.rest ∙ ap (drop x.len) same, onto.room ∙ ap length same, onto.lent ∙ lent)
+
+  -- an emptied register holds no code
+  pub cleared_none : (c : Register ℕ k e) → c.len ≡ 0 → listed c ≡ []
+  cleared_none c e = ap (λ n. take n c.keys.now) e
+
+  -- more codes, after those that were added
+  pub added_on : (a b c : Register ℕ k e) (ks js : List ℕ) → listed b ≡ enter_all eqb (listed a) ks → (a.len ≤ 4096 → b.len ≤ 4096) → Added js b c (Ok tt) → Added (ks ++ js) a c (Ok tt)
+  added_on a b c ks js held few more = (added_all (listed a) (listed b) (listed c) ks js held more.0, λ l. more.1 (few l))
+
+  -- or some that find no room, whatever was to follow
+  pub added_over : (a b c : Register ℕ k e) (ks js rest : List ℕ) (r : Refusal) → listed b ≡ enter_all eqb (listed a) ks → length b.keys.now ≡ length a.keys.now → Added js b c (Err r) → Added (ks ++ (js ++ rest)) a c (Err r)
+  added_over a b c ks js rest r held room over =
+      let all : enter_all eqb (listed a) (ks ++ (js ++ rest)) ≡ enter_all eqb (enter_all eqb (listed b) js) rest =
+      enter_all-append eqb (listed a) ks (js ++ rest)
+      ∙ ap (λ l. enter_all eqb l (js ++ rest)) (sym held)
+      ∙ enter_all-append eqb (listed b) js rest in
+      (over.0, omega (arith, over.1, ap length all, enter_all-length eqb (enter_all eqb (listed b) js) rest, room))
+
+-- a code that stands at the limit is one too many
+pub entered_over : (held : List ℕ) (code : ℕ) → 4096 ≤ place_of eqb code held → 4096 < length (enter eqb code held)
+entered_over held code l =
+    enter_both eqb code held (λ after. 4096 < length after)
+    (λ there. omega arith)
+    (λ new. omega (arith, length_push held code))
 
 -- the targets of outcomes, up to one and from it on
 pub targets_more : (os : List Outcome) (i : ℕ) (d : Outcome) → i < length os → targets_of (take (i + 1) os) ≡ targets_of (take i os) ++ ((get_or os i d).target ∷ [])
@@ -100,10 +108,10 @@ over_action held now' m s a room l e over =
     )
 
 -- the answers of the search
-pub search_full : (m : Model) → Lawful m → (room : ℕ) (codes : List ℕ) → room < length (codes_of m) → Searched m room codes false
-search_full m law room codes over = (over, search_exceeds m law room over)
+pub search_full : (m : Model) → Lawful m → (room : ℕ) (codes : List ℕ) → room < length (codes_of m) → Searched m room codes (Err TooManyStates)
+search_full m law room codes over = (refl, over, search_exceeds m law room over)
 
-pub search_turn_full : (m : Model) → Lawful m → (room n : ℕ) (held codes : List ℕ) (s : ℕ) → held ≡ listed_after m n → n < length held → length held ≤ 4096 → s ≡ get_or held n 0 → room < length (enter_all eqb held (leads_to m s)) → Searched m room codes false
+pub search_turn_full : (m : Model) → Lawful m → (room n : ℕ) (held codes : List ℕ) (s : ℕ) → held ≡ listed_after m n → n < length held → length held ≤ 4096 → s ≡ get_or held n 0 → room < length (enter_all eqb held (leads_to m s)) → Searched m room codes (Err TooManyStates)
 search_turn_full m law room n held codes s e l few at over =
     let l' : n < length (listed_after m n) = omega (arith, ap length e) in
     let next : enter_all eqb held (leads_to m s) ≡ listed_after m (suc n) = (λ i. enter_all eqb (e i) (leads_to m ((at ∙ ap (λ h. get_or h n 0) e) i))) ∙ sym (listed_next m n l') in
@@ -116,19 +124,16 @@ search_turn m n held after s e l at turn =
     let one : suc n ≡ n + 1 = omega arith in
     (turn ∙ next ∙ ap (listed_after m) one, omega (arith, ap length turn, enter_all-length eqb held (leads_to m s)))
 
-pub search_done : (m : Model) → Lawful m → (room n : ℕ) (codes : List ℕ) → codes ≡ listed_after m n → n ≤ length codes → length codes ≤ n → length codes ≤ room → length codes ≤ 4096 → Searched m room codes true
+pub search_done : (m : Model) → Lawful m → (room n : ℕ) (codes : List ℕ) → codes ≡ listed_after m n → n ≤ length codes → length codes ≤ n → length codes ≤ room → length codes ≤ 4096 → Searched m room codes (Ok tt)
 search_done m law room n codes e near done fits few =
     let all : codes_of m ≡ listed_after m n = listed_complete m n (omega arith) (omega (arith, ap length e)) in
     let same : codes ≡ codes_of m = e ∙ sym all in
     (same, (fits, subst (Lists m) (sym same) (search_lists m law (omega (arith, ap length same)))))
 
--- codes added after the register was emptied
-pub cleared_rest : (a b x : Codes) → b.table.now ≡ a.table.now → Onto b x → drop x.len x.table.now ≡ drop x.len a.table.now
-cleared_rest a b x same onto = onto.rest ∙ ap (drop x.len) same
-
-pub cleared_room : (a b x : Codes) → b.table.now ≡ a.table.now → Onto b x → length x.table.now ≡ length a.table.now
-cleared_room a b x same onto = onto.room ∙ ap length same
-
--- an emptied register holds no code
-pub cleared_none : (c : Codes) → c.len ≡ 0 → listed c ≡ []
-cleared_none c e = ap (λ n. take n c.table.now) e
+-- a code that is refused, or entered at the limit, is one too many
+pub not_listed : (before after : List ℕ) (room code : ℕ) (answer : Option ℕ) → Entered eqb code room before after answer → ((p : ℕ) → answer ≡ Some p → 4096 ≤ p) → room_in room < length (enter eqb code before)
+not_listed before after room code (Some p) entered late =
+    let past : 4096 ≤ place_of eqb code before = omega (arith, late p refl, entered.0) in
+    omega (arith, entered_over before code past)
+not_listed before after room code None (new, full, _) late =
+    omega (arith, ap length (enter_new eqb code before (omega arith)), length_push before code)

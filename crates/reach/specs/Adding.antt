@@ -1,17 +1,26 @@
--- What entering several codes does to a register.
-use Rattle.std.specs.Prelude.{◌≡◌, ℕ, ◌<◌, ◌≤◌, Bool, true, false, List, length, drop, nat_eq}
-use Rattle.codes.specs.declared.Codes.{Codes}
-use Rattle.codes.specs.Listed.{listed, room_in}
+-- What listing several codes does to a register.
+use Rattle.std.specs.Prelude.{◌≡◌, ⊤, ℕ, ◌<◌, ◌≤◌, List, length, drop, Ok, Err, Result, min, nat_eq}
+use Rattle.std.specs.declared.cmp.PartialEq as equality
+use Rattle.refusal.specs.declared.Refusal.{Refusal}
+use Rattle.refusal.specs.declared.Refusal.TheVariants.{TooManyStates}
+use Rattle.register.specs.declared.Key as key
+use Rattle.register.specs.declared.Register.{Register}
 use Rattle.register.specs.Keys.{enter_all}
+use Rattle.register.specs.Listed.{listed}
 
--- all of the keys are entered, or there are more than the room
-abbrev pub Added : List ℕ → Codes → Codes → Bool → Type 0
-Added keys before after true = listed after ≡ enter_all nat_eq (listed before) keys
-Added keys before after false = room_in (length before.table.now) < length (enter_all nat_eq (listed before) keys)
+-- how many states are listed at most over a table of n places
+abbrev pub room_in : ℕ → ℕ
+room_in n = min n 4096
 
--- codes are added in the same table, which is as it was after them
-pub record Onto (before after : Codes) : Type 0 where
-  pub more : before.len ≤ after.len
-  pub rest : drop after.len after.table.now ≡ drop after.len before.table.now
-  pub room : length after.table.now ≡ length before.table.now
-  pub lent : after.table.ghost_name ≡ before.table.ghost_name
+module _ {k : key.Ghosts ℕ} {e : equality.Ghosts ℕ} where
+  -- all of the codes are listed, or there are more than the room
+  abbrev pub Added : List ℕ → Register ℕ k e → Register ℕ k e → Result ⊤ Refusal → Type 0
+  Added codes before after (Ok _) = (listed after ≡ enter_all nat_eq (listed before) codes) × (before.len ≤ 4096 → after.len ≤ 4096)
+  Added codes before after (Err r) = (r ≡ TooManyStates) × (room_in (length before.keys.now) < length (enter_all nat_eq (listed before) codes))
+
+  -- codes are listed in the same table, which is as it was after them
+  pub record Onto (before after : Register ℕ k e) : Type 0 where
+    pub more : before.len ≤ after.len
+    pub rest : drop after.len after.keys.now ≡ drop after.len before.keys.now
+    pub room : length after.keys.now ≡ length before.keys.now
+    pub lent : after.keys.ghost_name ≡ before.keys.ghost_name

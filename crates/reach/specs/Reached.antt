@@ -1,8 +1,10 @@
 -- What a search finds, in words that do not speak of searching: the states that some history of the model ends in.
-use Rattle.std.specs.Prelude.{◌≡◌, ℕ, ◌<◌, ◌≤◌, Bool, true, false, List, [], ◌∷◌, ◌++◌, length}
+use Rattle.std.specs.Prelude.{◌≡◌, ℕ, ◌<◌, ◌≤◌, ⊤, List, [], ◌∷◌, ◌++◌, length, Ok, Err, Result}
 use Rattle.std.specs.List.{ContainsAt as Has}
 use Rattle.model.specs.Histories.{History, final}
 use Rattle.model.specs.Models.{Model}
+use Rattle.refusal.specs.declared.Refusal.{Refusal}
+use Rattle.refusal.specs.declared.Refusal.TheVariants.{TooManyStates}
 use Rattle.register.specs.Keys.{Distinct, Kept}
 use Rattle.reach.specs.Search.{leads_to, codes_of}
 
@@ -28,6 +30,6 @@ abbrev pub MoreThan : Model → ℕ → Type 0
 MoreThan m n = (codes : List ℕ) × (Distinct codes × ((n < length codes) × ((c : ℕ) → Has codes c → Reached m c)))
 
 -- the answer of a search into a table of so many places: the codes, or there are more
-abbrev pub Searched : Model → ℕ → List ℕ → Bool → Type 0
-Searched m room codes true = (codes ≡ codes_of m) × ((length codes ≤ room) × Lists m codes)
-Searched m room codes false = (room < length (codes_of m)) × MoreThan m room
+abbrev pub Searched : Model → ℕ → List ℕ → Result ⊤ Refusal → Type 0
+Searched m room codes (Ok _) = (codes ≡ codes_of m) × ((length codes ≤ room) × Lists m codes)
+Searched m room codes (Err r) = (r ≡ TooManyStates) × (room < length (codes_of m)) × MoreThan m room

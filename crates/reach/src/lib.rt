@@ -2,60 +2,68 @@
 
 #![tactic(auto)]
 
-ghost use Rattle.codes.specs.Listed.{listed, room_in};
+ghost use Rattle.bounded.specs.Listed.{listed as ways};
 ghost use Rattle.model.specs.Histories.{targets_of};
-ghost use Rattle.model.specs.Ways.{listed as ways};
-ghost use Rattle.reach.specs.Adding.{Added, Onto};
+ghost use Rattle.reach.specs.Adding.{Added, Onto, room_in};
 ghost use Rattle.reach.specs.Reached.{Searched};
 ghost use Rattle.reach.specs.Search.{leads_to};
-ghost use Rattle.std.specs.Prelude.{◌≡◌, length, drop};
+ghost use Rattle.register.specs.Listed.{listed};
+ghost use Rattle.std.specs.Prelude.{◌≡◌, [], ◌∷◌, length, drop};
 
-use codes::Codes;
 use model::{Outcomes, SiteModel};
+use refusal::Refusal;
+use register::Register;
 
-// Lists the reachable states; false where there are more than the codes have room for.
-pub fn search<M: SiteModel>(m: &M, codes: &mut Codes) -> bool
-    ensures answer { Searched (M.SiteModel.meaning m.now) (room_in (length codes.old.table.now)) (listed codes.new) result }
-    ensures rest { drop codes.new.len codes.new.table.now ≡ drop codes.new.len codes.old.table.now }
-    ensures room { length codes.new.table.now ≡ length codes.old.table.now }
-    ensures lent { codes.new.table.ghost_name ≡ codes.old.table.ghost_name }
+// How many states a book holds at most.
+const MOST: usize = 4096;
+
+// Lists the reachable states; refused where there are more than the table or a book holds.
+pub fn search<M: SiteModel>(m: &M, codes: &mut Register<u64>) -> Result<(), Refusal>
+    ensures answer { Searched (M.SiteModel.meaning m.now) (room_in (length codes.old.keys.now)) (listed codes.new) result }
+    ensures rest { drop codes.new.len codes.new.keys.now ≡ drop codes.new.len codes.old.keys.now }
+    ensures room { length codes.new.keys.now ≡ length codes.old.keys.now }
+    ensures lent { codes.new.keys.ghost_name ≡ codes.old.keys.ghost_name }
 {
     codes.clear();
-    let Some(_) = codes.enter(m.start()) else {
-        return false;
-    };
+    list(codes, m.start())?;
+    // The list grows while it is gone through, so no iterator can lend it.
     let mut place = 0;
     while let Some(state) = codes.get(place) {
-        if !add_targets(m, state, codes) {
-            return false;
-        }
+        add_targets(m, state, codes)?;
         place += 1;
     }
-    true
+    Ok(())
 }
 
-// Adds the unlisted targets of a state, actions rising; false where one finds no room.
-fn add_targets<M: SiteModel>(m: &M, state: u64, codes: &mut Codes) -> bool
+// Adds the unlisted targets of a state, actions rising.
+fn add_targets<M: SiteModel>(m: &M, state: u64, codes: &mut Register<u64>) -> Result<(), Refusal>
     ensures added { Added (leads_to (M.SiteModel.meaning m.now) state) codes.old codes.new result }
     ensures onto { Onto codes.old codes.new }
 {
     for action in 0..m.actions() {
-        if !add_outcomes(&m.outcomes(state, action), codes) {
-            return false;
-        }
+        add_outcomes(&m.outcomes(state, action), codes)?;
     }
-    true
+    Ok(())
 }
 
 // Adds the unlisted targets of an action's outcomes, in order.
-fn add_outcomes(outcomes: &Outcomes, codes: &mut Codes) -> bool
+fn add_outcomes(outcomes: &Outcomes, codes: &mut Register<u64>) -> Result<(), Refusal>
     ensures added { Added (targets_of (ways outcomes.now)) codes.old codes.new result }
     ensures onto { Onto codes.old codes.new }
 {
     for way in outcomes.as_slice() {
-        let Some(_) = codes.enter(way.target) else {
-            return false;
-        };
+        list(codes, way.target)?;
     }
-    true
+    Ok(())
+}
+
+// Adds one state, unless it is listed.
+fn list(codes: &mut Register<u64>, code: u64) -> Result<(), Refusal>
+    ensures added { Added (code ∷ []) codes.old codes.new result }
+    ensures onto { Onto codes.old codes.new }
+{
+    match codes.enter(code) {
+        Some(place) if place < MOST => Ok(()),
+        _ => Err(Refusal::TooManyStates),
+    }
 }

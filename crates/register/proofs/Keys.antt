@@ -39,15 +39,6 @@ place_of_here eq k (x ∷ xs) (suc i) d =
     (λ _ l. absurd (omega arith))
     (λ _ l m e. ap (λ n. suc n) (place_of_here eq k xs i d (omega arith) (omega arith) e))
 
--- or goes past
-pub place_of_past : {K : Type 0} (eq : K → K → Bool) (k : K) (ks : List K) (i : ℕ) (d : K) → i ≤ place_of eq k ks → i < length ks → eq k (get_or ks i d) ≡ false → i + 1 ≤ place_of eq k ks
-place_of_past eq k [] i d = λ l m. absurd (omega arith)
-place_of_past eq k (x ∷ xs) zero d = λ l m e. omega (arith, cond-false (eq k x) 0 (suc (place_of eq k xs)) e)
-place_of_past eq k (x ∷ xs) (suc i) d =
-    cond_both (eq k x) 0 (suc (place_of eq k xs)) (λ n. suc i ≤ n → suc i < suc (length xs) → eq k (get_or xs i d) ≡ false → suc i + 1 ≤ n)
-    (λ _ l. absurd (omega arith))
-    (λ _ l m e. omega (arith, place_of_past eq k xs i d (omega arith) (omega arith) e))
-
 -- a key that is there changes nothing
 pub enter_there : {K : Type 0} (eq : K → K → Bool) (k : K) (ks : List K) → place_of eq k ks < length ks → enter eq k ks ≡ ks
 enter_there eq k ks l = cond-true _ ks (ks ++ (k ∷ [])) (lt-ltb (place_of eq k ks) (length ks) l)
@@ -63,16 +54,6 @@ enter_both eq k ks P there new =
     (λ l. subst P (sym (enter_there eq k ks l)) (there l))
     (λ l. subst P (sym (enter_new eq k ks l)) (new (omega (arith, place_of_le eq k ks))))
     (cases_lt (place_of eq k ks) (length ks))
-
-pub enter_place : {K : Type 0} (eq : K → K → Bool) (k : K) (ks : List K) → place_of eq k ks < length (enter eq k ks)
-enter_place eq k ks =
-    enter_both eq k ks (λ r. place_of eq k ks < length r) (λ l. l) (λ e. omega (arith, e, length_push ks k))
-
--- the key stands at its place
-pub enter_at : {K : Type 0} (eq : K → K → Bool) → Decides eq → (k : K) (ks : List K) (d : K) → get_or (enter eq k ks) (place_of eq k ks) d ≡ k
-enter_at eq D k ks d =
-    enter_both eq k ks (λ r. get_or r (place_of eq k ks) d ≡ k) (place_of_at eq D k ks d)
-    (λ e. get_or_push ks k d (place_of eq k ks) (sym e))
 
 pub enter-length : {K : Type 0} (eq : K → K → Bool) (k : K) (ks : List K) → (length ks ≤ length (enter eq k ks)) × (length (enter eq k ks) ≤ length ks + 1)
 enter-length eq k ks =
@@ -127,11 +108,6 @@ enter_all-take eq held (k ∷ ks) =
     ∙ ap (take (length held)) (enter_all-take eq (enter eq k held) ks)
     ∙ enter-take eq k held
 
-pub enter_all_distinct : {K : Type 0} (eq : K → K → Bool) → Decides eq → (held ks : List K) → Distinct held → Distinct (enter_all eq held ks)
-enter_all_distinct eq D held [] apart = apart
-enter_all_distinct eq D held (k ∷ ks) apart =
-    enter_all_distinct eq D (enter eq k held) ks (enter_distinct eq D k held apart)
-
 -- a list with no key twice gives each key its own place
 pub place_of-get_or : {K : Type 0} (eq : K → K → Bool) → Decides eq → (ks : List K) (i : ℕ) (d : K) → Distinct ks → i < length ks → place_of eq (get_or ks i d) ks ≡ i
 place_of-get_or eq D ks i d apart l =
@@ -158,18 +134,3 @@ place_of_append_new eq k (x ∷ xs) js =
       | true ↦ λ l. absurd (omega arith)
       | false ↦ λ l. omega (arith, place_of_append_new eq k xs js (omega arith))
     ]
-
--- an entry leaves the places of the keys that were there,
-pub place_of_enter : {K : Type 0} (eq : K → K → Bool) (j k : K) (ks : List K) → place_of eq j ks < length ks → place_of eq j (enter eq k ks) ≡ place_of eq j ks
-place_of_enter eq j k ks l =
-    enter_both eq k ks (λ r. place_of eq j r ≡ place_of eq j ks) (λ _. refl) (λ _. place_of_append eq j ks (k ∷ []) l)
-
--- and the key has the place that it was given
-pub place_of_entered : {K : Type 0} (eq : K → K → Bool) → Decides eq → (k : K) (ks : List K) → place_of eq k (enter eq k ks) ≡ place_of eq k ks
-place_of_entered eq D k ks =
-    enter_both eq k ks (λ r. place_of eq k r ≡ place_of eq k ks) (λ _. refl)
-    (λ e. omega (arith, place_of_append_new eq k ks (k ∷ []) (omega arith), cond-true {A = ℕ} (eq k k) 0 1 (D.self k)))
-
-pub enter-get_or : {K : Type 0} (eq : K → K → Bool) (k : K) (ks : List K) (i : ℕ) (d : K) → i < length ks → get_or (enter eq k ks) i d ≡ get_or ks i d
-enter-get_or eq k ks i d l =
-    enter_both eq k ks (λ r. get_or r i d ≡ get_or ks i d) (λ _. refl) (λ _. get_or_append_left ks (k ∷ []) d i l)

@@ -4,3 +4,5 @@ pub mod Keys
 pub mod Order
 pub mod Steps
 pub mod Table
+pub mod Latest
+pub mod Search

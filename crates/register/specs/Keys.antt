@@ -1,7 +1,8 @@
 -- A register keeps each key once, in the order of entry: entering a key puts it at the end of the list, unless it stands there.
 -- The place of a key is where it first stands, counted from 0, or the list's length where it stands nowhere.
-use Rattle.std.specs.Prelude.{◌≡◌, ℕ, suc, ◌<◌, ◌≤◌, Bool, true, cond, List, [], ◌∷◌, ◌++◌, length, take, drop, Some, None, Option, ◌≢◌, nat_lt, slice_index_or}
+use Rattle.std.specs.Prelude.{◌≡◌, ℕ, suc, ◌<◌, ◌≤◌, Bool, true, cond, List, [], ◌∷◌, ◌++◌, length, take, drop, Some, None, Option, ◌≢◌, nat_eq, nat_lt, refl, slice_index_or}
 use Rattle.std.specs.List.{ContainsAt as Has}
+use Rattle.std.proofs.lemmas.Bool.{eqb-true, eq-eqb}
 
 -- a test that says of any two keys whether they are one
 pub record Decides {K : Type 0} (eq : K → K → Bool) : Type 0 where
@@ -51,3 +52,12 @@ Stands ks p None = length ks ≤ p
 abbrev pub Counted : {K : Type 0} → (K → K → Bool) → List K → List K → List K → Option ℕ → Type 0
 Counted eq ks before after (Some n) = Kept ks (take n after) × (take n after ≡ enter_all eq [] ks) × (n ≡ length (enter_all eq [] ks)) × (drop n after ≡ drop n before)
 Counted eq ks before after None = (length before < length (enter_all eq [] ks)) × (after ≡ take (length before) (enter_all eq [] ks))
+
+-- the answer to where, from a place on and before another, the key k stands in ks
+abbrev pub Found : {K : Type 0} → List K → K → ℕ → ℕ → Option ℕ → Type 0
+Found ks k from end (Some p) = (from ≤ p) × (p < end) × (slice_index_or ks p k ≡ k)
+Found ks k from end None = (q : ℕ) → from ≤ q → q < end → slice_index_or ks q k ≢ k
+
+-- the numbers' own test decides
+pub number_decides : Decides nat_eq
+number_decides = record { only = eqb-true; self = λ x. eq-eqb x x refl }

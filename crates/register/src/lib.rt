@@ -1,40 +1,38 @@
+// A register keeps each key once, in the order of entry, in a table that it is lent.
+
 #![tactic(auto)]
 
-ghost use Rattle.std.specs.Prelude.{◌≡◌, ◌≤◌, Bool, length, take, nat_eq};
+ghost use Rattle.std.specs.Prelude.{◌≡◌, ℕ, ◌≤◌, length, min, take};
+ghost use Rattle.register.specs.Chains.{Chained, buckets};
 ghost use Rattle.register.specs.Keys.{Decides, Distinct};
-ghost use Rattle.std.proofs.Common.{rules};
 
+mod chains;
 mod count;
 mod entry;
 mod look;
+mod numbers;
 
+use chains::Chains;
 pub use count::distinct;
 
-// What a register can keep: `same` decides whether two keys are one.
-pub trait Key: Copy {
-    ghost equals: { Self → Self → Bool };
+// What a register can keep: `==` decides whether two keys are one.
+pub trait Key: Copy + Eq {
+    ghost bucket: { Self → ℕ };
 
-    fn same(&self, other: &Self) -> bool
-        ensures { result ≡ equals self.now other.now };
+    // A search looks through the keys of one bucket: a number that tells keys apart makes it short.
+    fn bucket(&self) -> usize
+        ensures { result ≡ bucket self.now };
 
-    ghost decides: { Decides equals };
+    ghost decides: { Decides Self.PartialEq.eq };
 }
 
-impl Key for u64 {
-    ghost equals = { nat_eq };
-
-    ghost decides = { Prim.search rules };
-
-    fn same(&self, other: &u64) -> bool {
-        *self == *other
-    }
-}
-
-// A register over a lent table: its first `len` elements are the keys, each once.
+// The first `len` elements of the table are the keys, each once. The first 4,096 of them are found by their buckets.
 #[derive(Drop)]
-pub struct Register<'a, K> {
+pub struct Register<'a, K: Key> {
     keys: &'a mut [K],
+    chains: Chains,
     len: usize,
     ghost fits: { len ≤ length keys.now },
     ghost apart: { Distinct (take len keys.now) },
+    ghost chained: { Chained chains.heads chains.earlier (buckets K.Key.bucket keys.now) (min len 4096) },
 }

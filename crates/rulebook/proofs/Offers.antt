@@ -1,40 +1,30 @@
 -- Where a book in memory offers an action, and what that action says.
-use Rattle.std.proofs.Common.{◌≡◌, ℕ, ◌^◌, ◌<◌, ◌≤◌, true, false, ltb, List, [], length, get_or, take, sym, ap, ◌∙◌, arith}
-use Rattle.std.proofs.lemmas.List.{get_or-map, get_or-take, length-take-le}
-use Rattle.std.proofs.lemmas.Bool.{cond-true, and_from, and_left, and_right, lt-ltb, le-ltb}
-use Rattle.model.specs.declared.Outcome.{Outcome}
-use Rattle.rulelayout.specs.Rule.{Act, Rule, valid}
-use Rattle.rulemodel.specs.Meaning.{landings, outcomes_from, met, no_act, act_at, is_switch_mask, offers, rule_model}
-use Rattle.rulemodel.proofs.RuleLaws.{act_parts}
-use Rattle.rulemodel.proofs.Turns.{all_light}
+use Rattle.std.proofs.Common.{◌≡◌, ℕ, Bool, true, false, ◌&&◌, List, Some, Option, sym, ap, subst, ◌∙◌, arith}
+use Rattle.std.specs.Prelude.{MatchOption, slice_get}
+use Rattle.std.specs.Bool.{then_some}
+use Rattle.std.proofs.lemmas.Option.{slice_get-map, slice_get_within, get_or_from_slice_get}
+use Rattle.rulelayout.specs.Rule.{Rule}
+use Rattle.rulemodel.specs.Meaning.{act_at, is_switch_mask, met, no_act, offers}
 use Rattle.rulebook.specs.declared.action.Action.{Action}
 use Rattle.rulebook.specs.Acts.{act_from, acts_from}
 
-pub act_there : (n : ℕ) (acts : List Action) (a : ℕ) (d : Action) → a < n → n ≤ length acts → get_or (acts_from n acts) a no_act ≡ act_from (get_or acts a d)
-act_there n acts a d h fits =
-    get_or-map act_from (take n acts) a d no_act (omega (arith, length-take-le n acts fits))
-    ∙ ap act_from (get_or-take n acts a d h)
+module _ (b : Rule) (acts : List Action) (s a : ℕ) (x : Action) (same : b.acts ≡ acts_from acts) (there : slice_get acts a ≡ Some x) where
+  act_there : slice_get b.acts a ≡ Some (act_from x)
+  act_there = ap (λ l. slice_get l a) same ∙ slice_get-map act_from acts a ∙ grind (arith, there)
 
-pub no_state : (b : Rule) (s a : ℕ) → 2 ^ b.switches ≤ s → offers b s a ≡ false
-no_state b s a h = and_left (is_switch_mask b s) _ (le-ltb s (2 ^ b.switches) h)
+  act_is : act_at b a ≡ act_from x
+  act_is = get_or_from_slice_get b.acts a (act_from x) no_act act_there
 
-pub no_action : (b : Rule) (s a : ℕ) → length b.acts ≤ a → offers b s a ≡ false
-no_action b s a h = and_right (is_switch_mask b s) _ (and_left (ltb a (length b.acts)) _ (le-ltb a (length b.acts) h))
+  offered_as : offers b s a ≡ (is_switch_mask b s && met s (act_from x))
+  offered_as = grind (arith, slice_get_within b.acts a (act_from x) act_there, act_is)
 
-pub needs_unmet : (b : Rule) (s a : ℕ) (x : Act) → act_at b a ≡ x → met s x ≡ false → offers b s a ≡ false
-needs_unmet b s a x e f =
-    and_right (is_switch_mask b s) _ (and_right (ltb a (length b.acts)) (met s (act_at b a)) (ap (met s) e ∙ f))
+  abbrev Told : Option Action → Type 0
+  Told r = MatchOption r (offers b s a ≡ false) (λ y. (offers b s a ≡ true) × (act_at b a ≡ act_from y))
 
-pub needs_met : (b : Rule) (s a : ℕ) (x : Act) → s < 2 ^ b.switches → a < length b.acts → act_at b a ≡ x → met s x ≡ true → offers b s a ≡ true
-needs_met b s a x hs ha e t =
-    and_from (is_switch_mask b s) _ (lt-ltb s (2 ^ b.switches) hs)
-    (and_from (ltb a (length b.acts)) (met s (act_at b a)) (lt-ltb a (length b.acts) ha) (ap (met s) e ∙ t))
+  told : (t : Bool) → offers b s a ≡ t → Told (then_some t x)
+  told true e = (e, act_is)
+  told false e = e
 
--- the outcomes of an action that is offered
-pub outcomes_told : (b : Rule) → valid b ≡ true → (s a : ℕ) (x : Act) (os : List Outcome) → offers b s a ≡ true → act_at b a ≡ x → os ≡ outcomes_from s x.effects → os ≡ (rule_model b).outcomes s a
-outcomes_told b v s a x os o e told =
-    let parts = act_parts b v s a o in
-    told
-    ∙ ap (λ (act : Act). outcomes_from s act.effects) (sym e)
-    ∙ all_light s (act_at b a).effects parts.few (omega (arith, parts.whole))
-    ∙ sym (cond-true (offers b s a) (landings s (act_at b a).effects) [] o)
+  -- the action, where its needs are met in a state
+  pub offered_told : (t : Bool) (r : Option Action) → r ≡ then_some t x → t ≡ (is_switch_mask b s && met s (act_from x)) → Told r
+  offered_told t r is e = subst Told (sym is) (told t (offered_as ∙ sym e))

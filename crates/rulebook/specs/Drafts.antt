@@ -1,34 +1,31 @@
--- What the reader's tables stand for while a file is read.
-use Rattle.std.specs.Prelude.{ℕ, List}
+-- What the reader's stages stand for while a file is read.
+use Rattle.std.specs.Prelude.{List, Ok, Err, Result, Some, None, Option}
+use Rattle.bounded.specs.Listed.{listed}
+use Rattle.refusal.specs.declared.Refusal.{Refusal}
 use Rattle.words.specs.Format.{Step, wrong, more, ends}
-use Rattle.rulelayout.specs.declared.RuleHead.{RuleHead}
-use Rattle.rulelayout.specs.declared.Masks.{Masks}
 use Rattle.rulelayout.specs.Rule.{Act}
 use Rattle.rulelayout.specs.Layout.{Draft, blank, listing, inside, whole}
-use Rattle.rulebook.specs.declared.action.Action.{Action}
-use Rattle.rulebook.specs.declared.action.Table.{Table}
-use Rattle.rulebook.specs.declared.read.Stage.{Stage}
-use Rattle.rulebook.specs.declared.read.Stage.TheVariants.{Blank, Listing, Inside, Whole}
-use Rattle.rulebook.specs.declared.read.Next.{Next}
-use Rattle.rulebook.specs.declared.read.Next.TheVariants.{Wrong, More, Ends}
-use Rattle.rulebook.specs.Acts.{effects_of, acts_from}
-
-abbrev pub head_from : Table → RuleHead
-head_from t = record { switches = t.switches; actions = t.actions; start = t.start }
+use Rattle.rulebook.specs.declared.stage.Table.{Table}
+use Rattle.rulebook.specs.declared.stage.Stage.{Stage}
+use Rattle.rulebook.specs.declared.stage.Stage.TheVariants.{Blank, Listing, Inside, Whole}
+use Rattle.rulebook.specs.Acts.{acts_from}
 
 abbrev pub list_from : Table → List Act
-list_from t = acts_from t.len t.acts
-
-abbrev pub masks_from : Action → ℕ → Masks
-masks_from a count = record { first = a.on; second = a.off; count = count }
+list_from t = acts_from (listed t.acts)
 
 abbrev pub draft_from : Stage → Draft
 draft_from Blank = blank
-draft_from (Listing t) = listing (head_from t) (list_from t)
-draft_from (Inside t a count) = inside (head_from t) (list_from t) (masks_from a count) (effects_of a)
-draft_from (Whole t) = whole (head_from t) (list_from t)
+draft_from (Listing t) = listing t.head (list_from t)
+draft_from (Inside t m es) = inside t.head (list_from t) m (listed es)
+draft_from (Whole t) = whole t.head (list_from t)
 
-abbrev pub step_from : Next → Step Draft
-step_from (Wrong r) = wrong r
-step_from (More s) = more (draft_from s)
-step_from Ends = ends
+-- what comes of a word that is not the end word
+abbrev pub step_from : Result Stage Refusal → Step Draft
+step_from (Ok s) = more (draft_from s)
+step_from (Err r) = wrong r
+
+-- what comes of a word: nothing more after the end word
+abbrev pub turn_from : Result (Option Stage) Refusal → Step Draft
+turn_from (Ok (Some s)) = more (draft_from s)
+turn_from (Ok None) = ends
+turn_from (Err r) = wrong r

@@ -1,8 +1,8 @@
 // A rule book as a ground model: its states are the masks of its switches.
-ghost use Rattle.std.specs.Prelude.{◌≡◌, ◌^◌, ◌≤◌, true, false, length, MatchOption};
-ghost use Rattle.model.specs.Ways.{listed};
-ghost use Rattle.rulemodel.specs.Meaning.{act_at, met, offers, outcomes_from, rule_model};
-ghost use Rattle.rulebook.specs.Acts.{act_from, effects_of};
+ghost use Rattle.std.specs.Prelude.{◌≡◌, ◌^◌, ◌≤◌, true, false, MatchOption};
+ghost use Rattle.bounded.specs.Listed.{listed};
+ghost use Rattle.rulemodel.specs.Meaning.{act_at, offers, rule_model};
+ghost use Rattle.rulebook.specs.Acts.{act_from};
 ghost use Rattle.rulebook.specs.Contents.{contents};
 ghost use Rattle.rulemodel.proofs.RuleLaws.{rule_lawful, rule_ground, rule_numbered};
 
@@ -11,60 +11,21 @@ use crate::book::RuleBook;
 use model::{GroundModel, Numbered, Outcomes, SiteModel, Sizes};
 use rulemodel::{needs_met, outcomes_of};
 
-// How many states there are.
-fn states(book: &RuleBook) -> u64
-    ensures count { result ≡ 2 ^ book.now.switches }
-    ensures small { result ≤ 1024 }
-{
-    1 << book.switches as u32
-}
-
-// How many actions there are.
-fn action_count(book: &RuleBook) -> u32
-    ensures count { result ≡ length (contents book.now).acts }
-{
-    book.len as u32
-}
-
-// Whether the action's needs are met in the state.
-fn meets(s: u64, action: &Action) -> bool
-    ensures { result ≡ met s (act_from action.now) }
-{
-    needs_met(s, action.on, action.off)
-}
-
-// The action, where it is offered in the state.
-fn offered_action(book: &RuleBook, s: u64, a: u32) -> Option<Action>
-    ensures { MatchOption result (offers (contents book.now) s a ≡ false) (λ x. (offers (contents book.now) s a ≡ true) × (act_at (contents book.now) a ≡ act_from x)) }
-{
-    if s >= states(book) {
-        return None;
+impl RuleBook {
+    // How many states there are.
+    fn states(&self) -> u64
+        ensures count { result ≡ 2 ^ self.now.switches }
+        ensures small { result ≤ 1024 }
+    {
+        1 << self.switches as u32
     }
-    let place = a as usize;
-    if place >= book.len {
-        return None;
-    }
-    let action = book.acts[place];
-    if meets(s, &action) {
-        Some(action)
-    } else {
-        None
-    }
-}
 
-// The action's outcomes in the state.
-fn gathered(s: u64, action: &Action) -> Outcomes
-    ensures { listed result ≡ outcomes_from s (effects_of action.now) }
-{
-    outcomes_of(s, &action.effects[0..action.len])
-}
-
-fn outcomes_at(book: &RuleBook, s: u64, a: u32) -> Outcomes
-    ensures { listed result ≡ (rule_model (contents book.now)).outcomes s a }
-{
-    match offered_action(book, s, a) {
-        Some(action) => gathered(s, &action),
-        None => Outcomes::none(),
+    // The action, where it is offered in the state.
+    fn offered(&self, s: u64, a: u32) -> Option<Action>
+        ensures { MatchOption result (offers (contents self.now) s a ≡ false) (λ x. (offers (contents self.now) s a ≡ true) × (act_at (contents self.now) a ≡ act_from x)) }
+    {
+        let action = self.acts.get(a as usize)?;
+        (s < self.states() && needs_met(s, action.on, action.off)).then_some(action)
     }
 }
 
@@ -78,11 +39,11 @@ impl SiteModel for RuleBook {
     }
 
     fn is_state(&self, s: u64) -> bool {
-        s < states(self)
+        s < self.states()
     }
 
     fn mask(&self, s: u64) -> u32 {
-        if s < states(self) { s as u32 } else { 0 }
+        if s < self.states() { s as u32 } else { 0 }
     }
 
     fn reward(&self, _s: u64) -> i32 {
@@ -90,23 +51,26 @@ impl SiteModel for RuleBook {
     }
 
     fn ground(&self, s: u64) -> u64 {
-        if s < states(self) { s } else { 0 }
+        if s < self.states() { s } else { 0 }
     }
 
     fn offers(&self, s: u64, a: u32) -> bool {
-        offered_action(self, s, a).is_some()
+        self.offered(s, a).is_some()
     }
 
     fn outcomes(&self, s: u64, a: u32) -> Outcomes {
-        outcomes_at(self, s, a)
+        match self.offered(s, a) {
+            Some(action) => outcomes_of(s, &action.effects),
+            None => Outcomes::new(),
+        }
     }
 
     fn sizes(&self) -> Sizes {
         Sizes {
             labels: self.switches as u32,
-            actions: action_count(self),
+            actions: self.acts.len() as u32,
             bound: 0,
-            span: states(self),
+            span: self.states(),
         }
     }
 }
@@ -119,6 +83,6 @@ impl Numbered for RuleBook {
     ghost numbered = { λ book. rule_numbered (contents book) book.sound };
 
     fn count(&self) -> usize {
-        states(self) as usize
+        self.states() as usize
     }
 }

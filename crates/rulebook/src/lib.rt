@@ -6,6 +6,7 @@ mod action;
 mod book;
 mod ground;
 mod read;
+mod stage;
 
 pub use book::RuleBook;
 pub use read::read_rule;

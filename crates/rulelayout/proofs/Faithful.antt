@@ -6,18 +6,18 @@ use Rattle.std.proofs.lemmas.List.{append-nil, append_assoc, length_push, length
 use Rattle.refusal.specs.declared.Refusal.{Refusal}
 use Rattle.refusal.specs.declared.Refusal.TheVariants.{WrongKind, WrongTotal, NoWait}
 use Rattle.words.specs.Words.{kind, end_word}
-use Rattle.words.specs.Format.{Step, more, ends, ReadsBack, Faithful}
+use Rattle.words.specs.Format.{more, onto, ends, ReadsBack, Faithful}
 use Rattle.words.specs.Tests.{all}
 use Rattle.words.proofs.Fields.{kind_put}
-use Rattle.words.proofs.Tests.{all_push, check_more, check_ends, check_passed}
+use Rattle.words.proofs.Tests.{all_push, check_more, check_ends, check_passed, require_ok, require_passed, onto_more, onto_ends}
 use Rattle.words.proofs.Reading.{places_right}
 use Rattle.words.proofs.Encoding.{only_encodings, Passes, passes_append, reads_file}
 use Rattle.rulelayout.specs.declared.Effect.{Effect}
 use Rattle.rulelayout.specs.declared.RuleHead.{RuleHead}
 use Rattle.rulelayout.specs.declared.Masks.{Masks}
 use Rattle.rulelayout.specs.Rule.{Act, Rule, total, fits, good_effect, good_act, good_head, waits, valid}
-use Rattle.rulelayout.specs.Layout.{word_of_head, action_word, effect_word, effect_words, act_words, rule_words, head_of, masks_of, Draft, blank, listing, inside, whole, going, listed, act_of, effect_of, filled, read_word, rule_of, whole_rule, rule_format, Begun, Sound}
-use Rattle.rulelayout.proofs.OneWord.{test_ok, test_passed, head_only, head_parts, head_low, head_back, masks_only, masks_low, masks_back, count_parts}
+use Rattle.rulelayout.specs.Layout.{word_of_head, action_word, effect_word, effect_words, act_words, rule_words, head_of, masks_of, Draft, blank, listing, inside, whole, listed, act_of, effect_of, filled, read_word, rule_of, whole_rule, rule_format, Begun, Sound}
+use Rattle.rulelayout.proofs.OneWord.{head_only, head_parts, head_low, head_back, masks_only, masks_low, masks_back, count_parts}
 
 -- the words read so far
 abbrev written : Draft → List ℕ
@@ -38,14 +38,6 @@ act_words_push [] a = ap (λ l. action_word a.on a.off (length a.effects) ∷ l)
 act_words_push (x ∷ acts) a =
     ap (λ l. action_word x.on x.off (length x.effects) ∷ (effect_words x.effects ++ l)) (act_words_push acts a)
     ∙ sym (ap (λ l. action_word x.on x.off (length x.effects) ∷ l) (append_assoc (effect_words x.effects) (act_words acts) (words_of_act a)))
-
-going_more : {X S : Type 0} (x : Result X Refusal) (next : X → Step S) (t : S) → going x next ≡ more t → (y : X) × ((x ≡ Ok y) × (next y ≡ more t))
-going_more (Ok y) next t e = (y, (refl, e))
-going_more (Err r) next t e = let z : ◌≡◌ {A = ℕ} 0 1 = cc in absurd (omega arith)
-
-going_ends : {X S : Type 0} (x : Result X Refusal) (next : X → Step S) → going x next ≡ ends → (y : X) × (next y ≡ ends)
-going_ends (Ok y) next e = (y, e)
-going_ends (Err r) next e = let z : ◌≡◌ {A = ℕ} 0 1 = cc in absurd (omega arith)
 
 more_is_not_end : {S : Type 0} {t : S} → more t ≡ ends → ⊥
 more_is_not_end e = let z : ◌≡◌ {A = ℕ} 0 1 = cc in omega arith
@@ -112,18 +104,18 @@ module _ (h : RuleHead) (acts : List Act) (m : Masks) (es : List Effect) (w : �
 steps : (s t : Draft) (w : ℕ) → Sound s → read_word s w ≡ more t → Steps s w t
 unfolding read_word
 steps blank t w sound e =
-    let (h, (is, at)) = going_more (head_of w) (λ h. more (listing h [])) t e in
+    let (h, (is, at)) = onto_more (head_of w) (λ h. more (listing h [])) t e in
     let told = head_only w h is in
     carry blank w (listing h []) t at (((told.0, refl), (head_parts h.switches h.actions h.start told.0).2), ap (λ x. x ∷ []) (sym told.1))
 steps (listing h acts) t w sound e =
-    let (m, (is, at)) = going_more (masks_of 7 h.switches w) (λ m. more (inside h acts m [])) t e in
+    let (m, (is, at)) = onto_more (masks_of 7 h.switches w) (λ m. more (inside h acts m [])) t e in
     let told = masks_only 7 h.switches w m is in
     carry (listing h acts) w (inside h acts m []) t at (
       (sound.0, sound.1, told.0, refl, (count_parts h.switches m.first m.second m.count told.0).0),
       ap (λ x. word_of_head h.switches h.actions h.start ∷ (act_words acts ++ (x ∷ []))) (sym told.1),
     )
 steps (inside h acts m es) t w sound e =
-    let (x, (is, at)) = going_more (masks_of 8 h.switches w) (λ e. filled h acts m (es ++ (effect_of e ∷ []))) t e in
+    let (x, (is, at)) = onto_more (masks_of 8 h.switches w) (λ e. filled h acts m (es ++ (effect_of e ∷ []))) t e in
     let told = masks_only 8 h.switches w x is in
     effect_steps h acts m es w x sound told.0 told.1 t at
 steps (whole h acts) t w sound e =
@@ -136,10 +128,10 @@ sound_steps s t w sound e = (steps s t w sound e).0
 
 ends_well : (s : Draft) (w : ℕ) → Sound s → read_word s w ≡ ends → kind w ≡ 15
 unfolding read_word
-ends_well blank w sound e = let (h, at) = going_ends (head_of w) (λ h. more (listing h [])) e in absurd (more_is_not_end at)
-ends_well (listing h acts) w sound e = let (m, at) = going_ends (masks_of 7 h.switches w) (λ m. more (inside h acts m [])) e in absurd (more_is_not_end at)
+ends_well blank w sound e = let (h, (is, at)) = onto_ends (head_of w) (λ h. more (listing h [])) e in absurd (more_is_not_end at)
+ends_well (listing h acts) w sound e = let (m, (is, at)) = onto_ends (masks_of 7 h.switches w) (λ m. more (inside h acts m [])) e in absurd (more_is_not_end at)
 ends_well (inside h acts m es) w sound e =
-    let (x, at) = going_ends (masks_of 8 h.switches w) (λ e. filled h acts m (es ++ (effect_of e ∷ []))) e in
+    let (x, (is, at)) = onto_ends (masks_of 8 h.switches w) (λ e. filled h acts m (es ++ (effect_of e ∷ []))) e in
     let es' = es ++ (effect_of x ∷ []) in
     elim (cases_Bool (ltb (length es') m.count)) [
       | inl b ↦ absurd (more_is_not_end (sym (cond-true (ltb (length es') m.count) (more (inside h acts m es')) _ b) ∙ at))
@@ -156,7 +148,7 @@ finishes blank b sound e = absurd (no_book e)
 finishes (listing h acts) b sound e = absurd (no_book e)
 finishes (inside h acts m es) b sound e = absurd (no_book e)
 finishes (whole h acts) b sound e =
-    let passed = test_ok (waits acts) NoWait (Ok (rule_of h acts)) b e in
+    let passed = require_ok (waits acts) NoWait (Ok (rule_of h acts)) b e in
     let is : rule_of h acts ≡ b = cc passed.1 in
     let head : good_head h.switches (length acts) h.start ≡ true = ap (λ n. good_head h.switches n h.start) sound.1 ∙ sound.0.0 in
     subst (λ (x : Rule). (valid x ≡ true) × (written (whole h acts) ≡ rule_words x)) is (
@@ -180,7 +172,7 @@ module _ (h : RuleHead) (few : h.switches ≤ 10) where
   module _ (acts : List Act) (m : Masks) where
     effect_read : (done : List Effect) (e : Effect) → good_effect h.switches e ≡ true → read_word (inside h acts m done) (effect_word e) ≡ filled h acts m (done ++ (e ∷ []))
     unfolding read_word
-    effect_read done e good = ap (λ x. going x (λ e. filled h acts m (done ++ (effect_of e ∷ [])))) (masks_back 8 h.switches e.set e.clear e.weight (lit< tt) few good)
+    effect_read done e good = ap (λ x. onto x (λ e. filled h acts m (done ++ (effect_of e ∷ [])))) (masks_back 8 h.switches e.set e.clear e.weight (lit< tt) few good)
 
     effects_pass : (done : List Effect) (e : Effect) (rest : List Effect) → all (good_effect h.switches) (e ∷ rest) ≡ true → length (done ++ (e ∷ rest)) ≡ m.count → total (done ++ (e ∷ rest)) ≡ 8 → Passes rule_format (inside h acts m done) (effect_words (e ∷ rest)) (listed h (acts ++ (act_of m (done ++ (e ∷ rest)) ∷ [])))
     effects_pass done e [] good full eight =
@@ -225,7 +217,7 @@ module _ (h : RuleHead) (few : h.switches ≤ 10) where
       let parts = act_parts h.switches a good in (
         inside h acts (headed a) [],
         (
-          ap (λ x. going x (λ m. more (inside h acts m []))) (masks_back 7 h.switches a.on a.off (length a.effects) (lit< tt) few parts.0),
+          ap (λ x. onto x (λ m. more (inside h acts m []))) (masks_back 7 h.switches a.on a.off (length a.effects) (lit< tt) few parts.0),
           (
             masks_low 7 h.switches a.on a.off (length a.effects) (lit< tt) few parts.0,
             all_effects_pass acts a.on a.off a.effects good,
@@ -277,7 +269,7 @@ reads_back b good =
     reads_file rule_format (rule_words b) (whole h b.acts) b (
       listing h [],
       (
-        ap (λ x. going x (λ h. more (listing h []))) (head_back b.switches (length b.acts) b.start one.0),
+        ap (λ x. onto x (λ h. more (listing h []))) (head_back b.switches (length b.acts) b.start one.0),
         (
           head_low b.switches (length b.acts) b.start one.0,
           all_acts_pass h parts.1 b.acts two.0 two.1 refl,
@@ -286,7 +278,7 @@ reads_back b good =
     )
     short
     (check_passed (eqb (kind (end_word (length (rule_words b)))) 15) WrongKind ends (eq-eqb (kind (end_word (length (rule_words b)))) 15 (kind_put (length (rule_words b)) 15 short)))
-    (test_passed (waits b.acts) NoWait (Ok (rule_of h b.acts)) two.1)
+    (require_passed (waits b.acts) NoWait (Ok (rule_of h b.acts)) two.1)
 
 -- the three laws of the format
 pub rule_faithful : Faithful rule_format (λ b. valid b ≡ true) rule_words

@@ -1,25 +1,18 @@
 -- What is read of one word is just what was written there: `head_only`, `head_back`, `masks_only`, `masks_back`.
-use Rattle.std.proofs.Common.{◌≡◌, ℕ, ◌+◌, ◌*◌, ◌^◌, ◌<◌, ◌≤◌, Bool, true, false, ◌&&◌, eqb, ltb, Ok, Result, refl, ap, ◌∙◌, subst, arith, lit<, pow_mono}
+use Rattle.std.proofs.Common.{◌≡◌, ℕ, ◌+◌, ◌*◌, ◌^◌, ◌<◌, ◌≤◌, true, ◌&&◌, eqb, ltb, Ok, Result, ap, ◌∙◌, subst, arith, lit<, pow_mono}
 use lib.Bits.{bit_and}
 use Rattle.std.proofs.lemmas.Bool.{and_parts, and_from, eqb-true, eq-eqb, ltb-true}
 use Rattle.refusal.specs.declared.Refusal.{Refusal}
 use Rattle.refusal.specs.declared.Refusal.TheVariants.{WrongKind, UnusedBit, OutOfRange, SwitchTwice}
 use Rattle.words.specs.Words.{field, kind}
 use Rattle.words.specs.Tests.{within}
-use Rattle.words.proofs.Tests.{within_parts}
+use Rattle.words.specs.Format.{require}
+use Rattle.words.proofs.Tests.{within_parts, require_ok, require_passed}
 use Rattle.words.proofs.Fields.{field_and_above, field_put, kind_put}
 use Rattle.rulelayout.specs.declared.RuleHead.{RuleHead}
 use Rattle.rulelayout.specs.declared.Masks.{Masks}
 use Rattle.rulelayout.specs.Rule.{in_range, fits, good_head}
-use Rattle.rulelayout.specs.Layout.{word_of_head, masks_word, test, head_of, masks_of}
-
-pub test_ok : {X : Type 0} (b : Bool) (r : Refusal) (next : Result X Refusal) (x : X) → test b r next ≡ Ok x → (b ≡ true) × (next ≡ Ok x)
-test_ok true r next x e = (refl, e)
-test_ok false r next x e = let z : ◌≡◌ {A = ℕ} 0 1 = cc in absurd (omega arith)
-
-pub test_passed : {X : Type 0} (b : Bool) (r : Refusal) (next : Result X Refusal) → b ≡ true → test b r next ≡ next
-test_passed true r next e = refl
-test_passed false r next e = let z : ◌≡◌ {A = ℕ} 0 1 = cc in absurd (omega arith)
+use Rattle.rulelayout.specs.Layout.{word_of_head, masks_word, head_of, masks_of}
 
 put : (w below v above low width : ℕ) → w ≡ below + 2 ^ low * (v + 2 ^ width * above) → below < 2 ^ low → v < 2 ^ width → field w low width ≡ v
 put w below v above low width e h k = ap (λ x. field x low width) e ∙ field_put below v above low width h k
@@ -37,10 +30,10 @@ head_only w h e =
     let y = field w 4 4 in
     let z = field w 8 10 in
     let read : Result RuleHead Refusal = Ok (record { switches = x; actions = y; start = z }) in
-    let ranged = test (good_head x y z) OutOfRange read in
-    let own = test_ok (eqb (kind w) 6) WrongKind (test (eqb (field w 18 10) 0) UnusedBit ranged) h e in
-    let none = test_ok (eqb (field w 18 10) 0) UnusedBit ranged h own.1 in
-    let good = test_ok (good_head x y z) OutOfRange read h none.1 in
+    let ranged = require (good_head x y z) OutOfRange read in
+    let own = require_ok (eqb (kind w) 6) WrongKind (require (eqb (field w 18 10) 0) UnusedBit ranged) h e in
+    let none = require_ok (eqb (field w 18 10) 0) UnusedBit ranged h own.1 in
+    let good = require_ok (good_head x y z) OutOfRange read h none.1 in
     let is : record { switches = x; actions = y; start = z } ≡ h = cc good.1 in
     let key = eqb-true (kind w) 6 own.0 in
     let unused = eqb-true (field w 18 10) 0 none.0 in
@@ -71,7 +64,7 @@ head_back s a t h =
     let f2 : field w 8 10 ≡ t = put w (s + a * 2 ^ 4) t (6 * 2 ^ 10) 8 10 (omega arith) (omega arith) lt in
     let f3 : field w 18 10 ≡ 0 = put w (s + a * 2 ^ 4 + t * 2 ^ 8) 0 6 18 10 (omega arith) (omega arith) (lit< tt) in
     let same : good_head (field w 0 4) (field w 4 4) (field w 8 10) ≡ good_head s a t = cc in
-    test_passed _ _ _ (eq-eqb _ _ k) ∙ test_passed _ _ _ (eq-eqb _ _ f3) ∙ test_passed _ _ _ (same ∙ h) ∙ cc
+    require_passed _ _ _ (eq-eqb _ _ k) ∙ require_passed _ _ _ (eq-eqb _ _ f3) ∙ require_passed _ _ _ (same ∙ h) ∙ cc
 
 -- an action or an outcome
 
@@ -96,12 +89,12 @@ masks_only k switches w m e =
     let y = field w 10 10 in
     let n = field w 20 4 in
     let read : Result Masks Refusal = Ok (record { first = x; second = y; count = n }) in
-    let apart = test (eqb (bit_and x y) 0) SwitchTwice read in
-    let ranged = test (in_range switches x y n) OutOfRange apart in
-    let own = test_ok (eqb (kind w) k) WrongKind (test (eqb (field w 24 4) 0) UnusedBit ranged) m e in
-    let none = test_ok (eqb (field w 24 4) 0) UnusedBit ranged m own.1 in
-    let good = test_ok (in_range switches x y n) OutOfRange apart m none.1 in
-    let once = test_ok (eqb (bit_and x y) 0) SwitchTwice read m good.1 in
+    let apart = require (eqb (bit_and x y) 0) SwitchTwice read in
+    let ranged = require (in_range switches x y n) OutOfRange apart in
+    let own = require_ok (eqb (kind w) k) WrongKind (require (eqb (field w 24 4) 0) UnusedBit ranged) m e in
+    let none = require_ok (eqb (field w 24 4) 0) UnusedBit ranged m own.1 in
+    let good = require_ok (in_range switches x y n) OutOfRange apart m none.1 in
+    let once = require_ok (eqb (bit_and x y) 0) SwitchTwice read m good.1 in
     let is : record { first = x; second = y; count = n } ≡ m = cc once.1 in
     let key = eqb-true (kind w) k own.0 in
     let unused = eqb-true (field w 24 4) 0 none.0 in
@@ -131,4 +124,4 @@ module _ (k switches x y n : ℕ) (known : k < 16) (few : switches ≤ 10) (h : 
       let range = fits_parts switches x y n h in
       let same : in_range switches (field w 0 10) (field w 10 10) (field w 20 4) ≡ in_range switches x y n = cc in
       let once : eqb (bit_and (field w 0 10) (field w 10 10)) 0 ≡ eqb (bit_and x y) 0 = cc in
-      test_passed _ _ _ (eq-eqb _ _ key) ∙ test_passed _ _ _ (eq-eqb _ _ f3) ∙ test_passed _ _ _ (same ∙ range.0) ∙ test_passed _ _ _ (once ∙ range.1) ∙ cc
+      require_passed _ _ _ (eq-eqb _ _ key) ∙ require_passed _ _ _ (eq-eqb _ _ f3) ∙ require_passed _ _ _ (same ∙ range.0) ∙ require_passed _ _ _ (once ∙ range.1) ∙ cc

@@ -1,10 +1,12 @@
 -- How a rule book is written in words, and how it is read: head, each action in order with its outcomes right after it, and
 -- the end word. The tests of one word stand first, and the order of the words after them.
-use Rattle.std.specs.Prelude.{◌≡◌, ℕ, ◌+◌, ◌*◌, ◌^◌, ◌<◌, Bool, true, cond, List, [], ◌∷◌, ◌++◌, length, Ok, Err, Result, ◌==◌, bit_and, nat_lt}
+use Rattle.std.specs.Prelude.{◌≡◌, ℕ, ◌+◌, ◌*◌, ◌^◌, ◌<◌, true, cond, List, [], ◌∷◌, ◌++◌, length, Ok, Err, Result, ◌==◌, bit_and, nat_lt}
+use Rattle.std.specs.Coded.{Unit-prop}
+use Rattle.std.proofs.Props.{props}
 use Rattle.refusal.specs.declared.Refusal.{Refusal}
 use Rattle.refusal.specs.declared.Refusal.TheVariants.{WrongKind, UnusedBit, OutOfRange, WrongTotal, NoWait, SwitchTwice}
 use Rattle.words.specs.Words.{field, kind}
-use Rattle.words.specs.Format.{Step, wrong, more, ends, check, Format}
+use Rattle.words.specs.Format.{Step, more, ends, check, require, onto, Format}
 use Rattle.words.specs.Tests.{all}
 use Rattle.rulelayout.specs.declared.Effect.{Effect}
 use Rattle.rulelayout.specs.declared.RuleHead.{RuleHead}
@@ -39,23 +41,19 @@ rule_words b = word_of_head b.switches (length b.acts) b.start ∷ act_words b.a
 
 -- reading one word
 
--- go on where the test holds, else refuse
-abbrev pub test : {X : Type 0} → Bool → Refusal → Result X Refusal → Result X Refusal
-test b r next = cond b next (Err r)
-
 abbrev pub head_of : ℕ → Result RuleHead Refusal
 head_of w =
-    test (kind w == 6) WrongKind
-    (test (field w 18 10 == 0) UnusedBit
-    (test (good_head (field w 0 4) (field w 4 4) (field w 8 10)) OutOfRange
+    require (kind w == 6) WrongKind
+    (require (field w 18 10 == 0) UnusedBit
+    (require (good_head (field w 0 4) (field w 4 4) (field w 8 10)) OutOfRange
     (Ok (record { switches = field w 0 4; actions = field w 4 4; start = field w 8 10 }))))
 
 abbrev pub masks_of : ℕ → ℕ → ℕ → Result Masks Refusal
 masks_of k switches w =
-    test (kind w == k) WrongKind
-    (test (field w 24 4 == 0) UnusedBit
-    (test (in_range switches (field w 0 10) (field w 10 10) (field w 20 4)) OutOfRange
-    (test (bit_and (field w 0 10) (field w 10 10) == 0) SwitchTwice
+    require (kind w == k) WrongKind
+    (require (field w 24 4 == 0) UnusedBit
+    (require (in_range switches (field w 0 10) (field w 10 10) (field w 20 4)) OutOfRange
+    (require (bit_and (field w 0 10) (field w 10 10) == 0) SwitchTwice
     (Ok (record { first = field w 0 10; second = field w 10 10; count = field w 20 4 })))))
 
 -- the order of the words
@@ -66,10 +64,6 @@ pub data Draft : Type 0 where
   listing : RuleHead → List Act → Draft  -- an action is due
   inside : RuleHead → List Act → Masks → List Effect → Draft  -- an outcome of the last action is due
   whole : RuleHead → List Act → Draft  -- the end is due
-
-abbrev pub going : {X S : Type 0} → Result X Refusal → (X → Step S) → Step S
-going (Ok x) next = next x
-going (Err r) next = wrong r
 
 -- with these actions read
 abbrev pub listed : RuleHead → List Act → Draft
@@ -88,9 +82,9 @@ filled h acts m es =
     (check (total es == 8) WrongTotal (more (listed h (acts ++ (act_of m es ∷ [])))))
 
 unfoldable pub read_word : Draft → ℕ → Step Draft
-read_word blank w = going (head_of w) (λ h. more (listing h []))
-read_word (listing h acts) w = going (masks_of 7 h.switches w) (λ m. more (inside h acts m []))
-read_word (inside h acts m es) w = going (masks_of 8 h.switches w) (λ e. filled h acts m (es ++ (effect_of e ∷ [])))
+read_word blank w = onto (head_of w) (λ h. more (listing h []))
+read_word (listing h acts) w = onto (masks_of 7 h.switches w) (λ m. more (inside h acts m []))
+read_word (inside h acts m es) w = onto (masks_of 8 h.switches w) (λ e. filled h acts m (es ++ (effect_of e ∷ [])))
 read_word (whole h acts) w = check (kind w == 15) WrongKind ends
 
 abbrev pub rule_of : RuleHead → List Act → Rule
@@ -101,7 +95,7 @@ unfoldable pub whole_rule : Draft → Result Rule Refusal
 whole_rule blank = Err NoWait
 whole_rule (listing h acts) = Err NoWait
 whole_rule (inside h acts m es) = Err NoWait
-whole_rule (whole h acts) = test (waits acts) NoWait (Ok (rule_of h acts))
+whole_rule (whole h acts) = require (waits acts) NoWait (Ok (rule_of h acts))
 
 abbrev pub rule_format : Format Draft Rule
 rule_format = record { start = blank; step = read_word; finish = whole_rule }
@@ -120,3 +114,10 @@ Sound (inside h acts m es) =
     × (all (good_effect h.switches) es ≡ true)
     × (length es < m.count)
 Sound (whole h acts) = Begun h acts × (length acts ≡ h.actions)
+
+-- a draft is sound in one way only
+pub sound-prop : (d : Draft) → IsProp (Sound d)
+sound-prop blank = Unit-prop
+sound-prop (listing h acts) = Prim.hlevel props
+sound-prop (inside h acts m es) = Prim.hlevel props
+sound-prop (whole h acts) = Prim.hlevel props

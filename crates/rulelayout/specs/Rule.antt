@@ -1,6 +1,6 @@
 -- What a rule book says: how many switches there are, which are on at the start, and for each action the switches that must
 -- be on and off where it is offered, and its outcomes in order. A mask has the bit k for the switch k.
-use Rattle.std.specs.Prelude.{ℕ, ◌+◌, ◌^◌, Bool, false, ◌&&◌, List, [], ◌∷◌, length, ◌==◌, bit_and, nat_lt}
+use Rattle.std.specs.Prelude.{ℕ, ◌+◌, ◌^◌, Bool, false, ◌&&◌, List, [], ◌∷◌, length, ◌==◌, bit_and, nat_lt, sum_by}
 use Rattle.words.specs.Tests.{all, within}
 use Rattle.rulelayout.specs.declared.Effect.{Effect}
 
@@ -15,8 +15,7 @@ pub record Rule : Type 0 where
   pub acts : List Act
 
 abbrev pub total : List Effect → ℕ
-total [] = 0
-total (e ∷ es) = e.weight + total es
+total es = sum_by (λ e. e.weight) es
 
 -- two masks of the switches that there are, and a count or a weight from 1 to 8
 abbrev pub in_range : ℕ → ℕ → ℕ → ℕ → Bool

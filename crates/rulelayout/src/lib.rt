@@ -3,14 +3,24 @@
 
 #![tactic(auto)]
 
-ghost use Rattle.std.specs.Prelude.{◌≡◌};
-ghost use Rattle.rulelayout.specs.Layout.{head_of, masks_of};
+ghost use Rattle.std.specs.Prelude.{◌≡◌, ◌<◌, ◌≤◌, length, MatchOption};
+ghost use Rattle.rulelayout.specs.Rule.{total};
+ghost use Rattle.rulelayout.specs.Layout.{head_of, masks_of, effect_of};
 
 use refusal::Refusal;
-use words::{field, fits};
+use words::{field, fits, open};
+
+// The kinds of a rule book's words.
+#[derive(Clone, Copy, Debug, PartialEq, Eq)]
+pub enum Kind {
+    Head = 6,
+    Action = 7,
+    Outcome = 8,
+    End = 15,
+}
 
 // One outcome of an action: the switches that it sets and clears, and its weight in eighths.
-#[derive(Clone, Copy)]
+#[derive(Clone, Copy, Debug, Default, PartialEq, Eq)]
 pub struct Effect {
     pub set: u16,
     pub clear: u16,
@@ -18,7 +28,7 @@ pub struct Effect {
 }
 
 // The first word of a book: how many switches and actions it has, and the switches that are on at the start.
-#[derive(Clone, Copy)]
+#[derive(Clone, Copy, Debug, PartialEq, Eq)]
 pub struct RuleHead {
     pub switches: u8,
     pub actions: u8,
@@ -27,27 +37,35 @@ pub struct RuleHead {
 
 // A word with two masks of switches: of an action, what must be on and what off, and the number of outcomes; of an outcome,
 // what it sets and clears, and the weight.
-#[derive(Clone, Copy)]
+#[derive(Clone, Copy, Debug, PartialEq, Eq)]
 pub struct Masks {
     pub first: u16,
     pub second: u16,
     pub count: u8,
 }
 
+// An outcome's word, as the outcome that it says.
+impl From<Masks> for Effect {
+    ghost from_gives = { λ masks effect. effect ≡ effect_of masks };
+
+    fn from(masks: Masks) -> Effect {
+        Effect {
+            set: masks.first,
+            clear: masks.second,
+            weight: masks.count,
+        }
+    }
+}
+
 // The head of a book, or what is wrong with its word.
 pub fn read_head(word: u32) -> Result<RuleHead, Refusal>
     ensures { result ≡ head_of word }
 {
-    if word >> 28 != 6 {
-        return Err(Refusal::WrongKind);
-    }
-    if field(word, 18, 10) != 0 {
-        return Err(Refusal::UnusedBit);
-    }
+    open(word, Kind::Head as u32, 18)?;
     let switches = field(word, 0, 4);
     let actions = field(word, 4, 4);
     let start = field(word, 8, 10);
-    if switches < 1 || switches > 10 || actions < 1 || actions > 8 || !fits(start, switches) {
+    if !(1..=10).contains(&switches) || !(1..=8).contains(&actions) || !fits(start, switches) {
         return Err(Refusal::OutOfRange);
     }
     Ok(RuleHead {
@@ -57,21 +75,16 @@ pub fn read_head(word: u32) -> Result<RuleHead, Refusal>
     })
 }
 
-// The fields of an action's word, of kind 7, or of an outcome's, of kind 8, in a book with so many switches; or what is wrong
-// with it.
+// The fields of an action's word or of an outcome's, as its kind says, in a book with so many switches; or what is wrong with
+// it.
 pub fn read_masks(kind: u32, switches: u32, word: u32) -> Result<Masks, Refusal>
     ensures { result ≡ masks_of kind switches word }
 {
-    if word >> 28 != kind {
-        return Err(Refusal::WrongKind);
-    }
-    if field(word, 24, 4) != 0 {
-        return Err(Refusal::UnusedBit);
-    }
+    open(word, kind, 24)?;
     let first = field(word, 0, 10);
     let second = field(word, 10, 10);
     let count = field(word, 20, 4);
-    if !fits(first, switches) || !fits(second, switches) || count < 1 || count > 8 {
+    if !fits(first, switches) || !fits(second, switches) || !(1..=8).contains(&count) {
         return Err(Refusal::OutOfRange);
     }
     if first & second != 0 {
@@ -82,4 +95,14 @@ pub fn read_masks(kind: u32, switches: u32, word: u32) -> Result<Masks, Refusal>
         second: second as u16,
         count: count as u8,
     })
+}
+
+// The weights of at most eight outcomes together.
+pub fn total_weight(effects: &[Effect]) -> Option<u32>
+    ensures { MatchOption result (8 < length effects.now) (λ sum. (length effects.now ≤ 8) × (sum ≡ total effects.now)) }
+{
+    if effects.len() > 8 {
+        return None;
+    }
+    Some(effects.iter().map(|effect| effect.weight as u32).sum())
 }

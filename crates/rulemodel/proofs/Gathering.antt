@@ -1,7 +1,10 @@
 -- What gathering the landings of an action's effects gives: each target once, in the order of first landing, with the whole
 -- weight that lands there.
-use Rattle.std.proofs.Common.{◌≡◌, ℕ, suc, ◌+◌, ◌<◌, ◌≤◌, Bool, true, false, cond, eqb, ltb, List, [], ◌∷◌, ◌++◌, map, length, get_or, set, sym, refl, ap, ◌∙◌, subst, inl, inr, zero-add, arith}
-use Rattle.std.proofs.lemmas.Bool.{and_parts, and_from, cases_Bool, cond_both, cond-true, cond-false, cond_below, eqb-true, eqb-false, eq-eqb, ne_eqb, cases_eq, cases_lt, lt-ltb, le-ltb}
+use Rattle.std.proofs.Common.{◌≡◌, ℕ, suc, ◌+◌, ◌<◌, ◌≤◌, Bool, true, false, cond, eqb, ltb, List, [], ◌∷◌, ◌++◌, map, length, get_or, set, sym, refl, ap, ◌∙◌, subst, inl, inr, zero-add, not, position, Some, None, zero, arith}
+use Rattle.std.proofs.lemmas.Bool.{and_parts, and_from, cond_both, cond-true, cond-false, cond_below, eqb-true, eqb-false, eq-eqb, ne_eqb, cases_eq, cases_lt, lt-ltb, le-ltb}
+use Rattle.std.proofs.lemmas.Grind.{common_steps}
+use Rattle.std.specs.List.{position_or_len}
+use Rattle.std.proofs.lemmas.List.Sums.{sum_by-cons}
 use Rattle.model.specs.declared.Outcome.{Outcome}
 use Rattle.model.specs.Models.{total as weights}
 use Rattle.register.specs.Keys.{Decides, Kept, place_of, enter, enter_all}
@@ -111,7 +114,7 @@ total_added (o ∷ os) t w =
 pub total_onto : (s : ℕ) (os : List Outcome) (es : List Effect) → weights (landings_onto s os es) ≡ weights os + total es
 total_onto s os [] = omega arith
 total_onto s os (e ∷ es) =
-    omega (arith, total_onto s (added os (landing s e) e.weight) es, total_added os (landing s e) e.weight)
+    omega (arith, total_onto s (added os (landing s e) e.weight) es, total_added os (landing s e) e.weight, sum_by-cons (λ (x : Effect). x.weight) e es)
 
 pub length-added : (os : List Outcome) (t w : ℕ) → (1 ≤ length (added os t w)) × (length os ≤ length (added os t w)) × (length (added os t w) ≤ length os + 1)
 length-added [] t w = (omega arith, omega arith, omega arith)
@@ -155,18 +158,31 @@ all_landings P grows s es h = all_onto P grows s [] es refl h
 
 -- a known target's outcome grows at its place, a new one comes last
 
-there_step : (b : Bool) (o : Outcome) (os : List Outcome) (t w p : ℕ) (d : Outcome) → (p < length os → added os t w ≡ set os p (heavier (get_or os p d) w)) → cond b 0 (suc p) < suc (length os) → cond b (heavier o w ∷ os) (o ∷ added os t w) ≡ set (o ∷ os) (cond b 0 (suc p)) (heavier (get_or (o ∷ os) (cond b 0 (suc p)) d) w)
+there_step : (b : Bool) (o : Outcome) (os : List Outcome) (t w p : ℕ) (d : Outcome) → (p < length os → added os t w ≡ set os p (heavier (get_or os p d) w)) → cond (not b) (1 + p) 0 < length (o ∷ os) → cond b (heavier o w ∷ os) (o ∷ added os t w) ≡ set (o ∷ os) (cond (not b) (1 + p) 0) (heavier (get_or (o ∷ os) (cond (not b) (1 + p) 0) d) w)
 there_step true o os t w p d ih h = refl
-there_step false o os t w p d ih h = ap (λ (ws : List Outcome). o ∷ ws) (ih (omega arith))
+there_step false o os t w p d ih h = ap (λ (ws : List Outcome). o ∷ ws) (ih (omega arith)) ∙ grind (arith, common_steps)
 
-pub added_there : (os : List Outcome) (t w : ℕ) (d : Outcome) → place_of eqb t (targets_of os) < length os → added os t w ≡ set os (place_of eqb t (targets_of os)) (heavier (get_or os (place_of eqb t (targets_of os)) d) w)
+new_step : (b : Bool) (o : Outcome) (os : List Outcome) (t w p : ℕ) → (length os ≤ p → added os t w ≡ os ++ (record { target = t; weight = w } ∷ [])) → length (o ∷ os) ≤ cond (not b) (1 + p) 0 → cond b (heavier o w ∷ os) (o ∷ added os t w) ≡ o ∷ (os ++ (record { target = t; weight = w } ∷ []))
+new_step true o os t w p ih h = absurd (omega arith)
+new_step false o os t w p ih h = ap (λ (ws : List Outcome). o ∷ ws) (ih (omega arith))
+
+added_there : (os : List Outcome) (t w : ℕ) (d : Outcome) → position_or_len (λ (o : Outcome). eqb t o.target) os < length os → added os t w ≡ set os (position_or_len (λ (o : Outcome). eqb t o.target) os) (heavier (get_or os (position_or_len (λ (o : Outcome). eqb t o.target) os) d) w)
 added_there [] t w d h = absurd (omega arith)
-added_there (o ∷ os) t w d h = there_step (eqb t o.target) o os t w (place_of eqb t (targets_of os)) d (added_there os t w d) h
+added_there (o ∷ os) t w d h = there_step (eqb t o.target) o os t w (position_or_len (λ (o : Outcome). eqb t o.target) os) d (added_there os t w d) h
 
-pub added_new : (os : List Outcome) (t w : ℕ) → place_of eqb t (targets_of os) ≡ length os → added os t w ≡ os ++ (record { target = t; weight = w } ∷ [])
-added_new [] t w h = refl
-added_new (o ∷ os) t w h =
-    elim (cases_Bool (eqb t o.target)) [
-      | inl e ↦ absurd (omega (arith, cond-true (eqb t o.target) 0 (suc (place_of eqb t (targets_of os))) e))
-      | inr e ↦ cond-false (eqb t o.target) _ _ e ∙ ap (λ (ws : List Outcome). o ∷ ws) (added_new os t w (omega (arith, cond-false (eqb t o.target) 0 (suc (place_of eqb t (targets_of os))) e)))
-    ]
+added_last : (os : List Outcome) (t w : ℕ) → length os ≤ position_or_len (λ (o : Outcome). eqb t o.target) os → added os t w ≡ os ++ (record { target = t; weight = w } ∷ [])
+added_last [] t w h = refl
+added_last (o ∷ os) t w h = new_step (eqb t o.target) o os t w (position_or_len (λ (o : Outcome). eqb t o.target) os) (added_last os t w) h
+
+pub added_at : (os : List Outcome) (t w i : ℕ) (d : Outcome) → position (λ (o : Outcome). eqb t o.target) os ≡ Some i → added os t w ≡ set os i (heavier (get_or os i d) w)
+added_at os t w i d e =
+    let at : (position_or_len (λ (o : Outcome). eqb t o.target) os ≡ i) × (i < length os) = grind arith in
+    subst (λ (n : ℕ). n < length os → added os t w ≡ set os n (heavier (get_or os n d) w)) at.0 (added_there os t w d) at.1
+
+pub added_new : (os : List Outcome) (t w : ℕ) → position (λ (o : Outcome). eqb t o.target) os ≡ None → added os t w ≡ os ++ (record { target = t; weight = w } ∷ [])
+added_new os t w e = added_last os t w (grind arith)
+
+pub weight_at : (os : List Outcome) (i : ℕ) (d : Outcome) → i < length os → (get_or os i d).weight ≤ weights os
+weight_at [] i d h = absurd (omega arith)
+weight_at (o ∷ os) zero d h = omega arith
+weight_at (o ∷ os) (suc i) d h = omega (arith, weight_at os i d (omega arith))

@@ -21,10 +21,6 @@ landing s e = bit_or (bit_xor (bit_or s e.clear) e.clear) e.set
 abbrev pub Lands : ℕ → Effect → ℕ → Type 0
 Lands s e t = (k : ℕ) → is_on k t ≡ (is_on k e.set || (is_on k s && not (is_on k e.clear)))
 
--- the outcome at a place
-abbrev pub way_at : List Outcome → ℕ → Outcome
-way_at os p = slice_index_or os p (record { target = 0; weight = 0 })
-
 abbrev pub heavier : Outcome → ℕ → Outcome
 heavier o w = record { target = o.target; weight = o.weight + w }
 

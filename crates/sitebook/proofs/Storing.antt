@@ -1,13 +1,11 @@
 -- The tables follow the draft of the book that is being read, and at the end they hold the book. For others: `Storing`, what
 -- is known of the pass so far, and the `storing_` lemmas, one for each thing that the pass does.
-use Rattle.std.proofs.Common.{◌≡◌, ℕ, zero, suc, ◌+◌, ◌-◌, ◌*◌, ◌%◌, ◌^◌, ◌<◌, ◌≤◌, Bool, true, not, ◌&&◌, eqb, ltb, leb, List, [], ◌∷◌, ◌++◌, length, get_or, drop, replicate, Some, None, Ok, Err, Result, sym, refl, ap, ◌∙◌, subst, inl, inr, zero-add, arith}
-use Rattle.std.proofs.lemmas.Nat.{mul-le}
+use Rattle.std.proofs.Common.{◌≡◌, ℕ, zero, suc, ◌+◌, ◌-◌, ◌*◌, ◌%◌, ◌^◌, ◌<◌, ◌≤◌, Bool, not, ◌&&◌, eqb, ltb, leb, List, [], ◌∷◌, ◌++◌, length, get_or, drop, replicate, Some, None, Ok, Err, Result, sym, refl, ap, ◌∙◌, subst, inl, inr, zero-add, arith}
 use Rattle.std.proofs.lemmas.List.{append_assoc, replicate_more}
-use Rattle.std.proofs.lemmas.Bool.{cases_Bool, and_parts, leb-true, cond-true, cond-false}
+use Rattle.std.proofs.lemmas.Bool.{cases_Bool, leb-true, cond-true, cond-false}
 use Rattle.refusal.specs.declared.Refusal.{Refusal}
 use Rattle.refusal.specs.declared.Refusal.TheVariants.{WrongEnd, WrongTotal, NotRising}
 use Rattle.words.specs.Words.{field, kind, first_word}
-use Rattle.words.specs.Tests.{all}
 use Rattle.words.specs.Format.{Step, wrong, more, ends, onto, got, stop, is_nil, closing, ending, run, reading}
 use Rattle.words.proofs.Reading.{after, run_short, turn}
 use Rattle.words.proofs.Tests.{onto_more, check_more}
@@ -16,17 +14,18 @@ use Rattle.sitelayout.specs.declared.Head.{Head}
 use Rattle.sitelayout.specs.declared.Mark.{Mark}
 use Rattle.sitelayout.specs.declared.Move.{Move}
 use Rattle.sitelayout.specs.declared.Worth.{Worth}
+use Rattle.sitelayout.specs.declared.kind.Kind.TheVariants.{End}
+use Rattle.sitelayout.specs.Kinds.{numbered, kind_of}
 use Rattle.sitelayout.specs.OneWord.{head_of, mask_of, reward_of, entry_of, move_of}
-use Rattle.sitelayout.specs.Site.{Site, taken, total, good_cell, valid}
+use Rattle.sitelayout.specs.Site.{Site, taken, total, valid}
 use Rattle.sitelayout.specs.Layout as layout
 use Rattle.sitelayout.specs.Layout.{Draft, fresh, marking, listing, moving, place_of, padded, marked, read_entry, moved, read_move, read_word, whole_book, site_format}
 use Rattle.sitelayout.proofs.Account.{same_more, more_is_no_end, Good, word_kept, end_word_reads, whole_book_is, book_kept}
-use Rattle.sitelayout.proofs.OneWords.{GoodHead, head_fields, mask_fields, reward_fields, entry_fields, move_fields}
-use Rattle.sitelayout.proofs.Valid.{cell_good}
+use Rattle.sitelayout.proofs.OneWords.{head_fields, mask_fields, reward_fields, entry_fields, move_fields}
 use Rattle.siteverdict.specs.declared.Counts.{Counts}
 use Rattle.siteverdict.specs.Counting.{bound_of, moves_in, Counted}
-use Rattle.siteverdict.proofs.Waiting.{moves-append, moves_filled}
-use Rattle.sitebook.specs.Storing.{Held, nothing, filled, with_head, with_mask, with_mark, with_entry, with_move, put_by, put_of, edges_of, book_of, Closable}
+use Rattle.siteverdict.proofs.Waiting.{moves_filled}
+use Rattle.sitebook.specs.Storing.{Held, nothing, filled, with_head, with_mask, with_mark, with_entry, with_move, put_as, put_of, edges_of, book_of, Closable}
 use Rattle.sitebook.specs.Tables.{cut, site_of}
 use Rattle.sitebook.proofs.Tables.{flat, starts_of, ends_of, flat-length, flat_filled, starts-length, starts_filled, starts-push, flat-push, edges_are, cut_edges, rising}
 
@@ -108,7 +107,7 @@ stores_step h fresh e w of is =
     let said = onto_more (head_of w) (λ x. more (marking x [] None)) e is in
     let s = head_fields w said.0 said.1.0 in (
       omega (arith, s.0),
-      subst (λ k. Stores (put_by k h w) e) (sym s.0) (subst (Stores (with_head h w)) (same_more said.1.1) (record {
+      subst (λ k. Stores (put_as k h w) e) (sym (ap numbered s.0)) (subst (Stores (with_head h w)) (same_more said.1.1) (record {
         labels = ap (λ (x : Head). x.labels) s.3;
         actions = ap (λ (x : Head). x.actions) s.3;
         marks = ap (λ (x : Held). x.marks) of;
@@ -120,7 +119,7 @@ stores_step h (marking head ms None) e w of is =
     let said = onto_more (mask_of head.labels w) (λ m. more (marking head ms (Some m))) e is in
     let s = mask_fields head.labels w said.0 said.1.0 in (
       omega (arith, s.0),
-      subst (λ k. Stores (put_by k h w) e) (sym s.0) (subst (Stores (with_mask h w)) (same_more said.1.1)
+      subst (λ k. Stores (put_as k h w) e) (sym (ap numbered s.0)) (subst (Stores (with_mask h w)) (same_more said.1.1)
           (record { labels = of.labels; actions = of.actions; marks = of.marks; starts = of.starts; moves = of.moves }, s.3)),
     )
 stores_step h (marking head ms (Some k)) e w of is =
@@ -130,7 +129,7 @@ stores_step h (marking head ms (Some k)) e w of is =
     let mark : ◌≡◌ {A = Mark} (record { mask = h.mask; raised = field w 0 12; origin = field w 12 12 }) (record { mask = k; raised = said.0.raised; origin = said.0.origin }) =
     ap {B = Mark} (λ (n : ℕ). record { mask = n; raised = field w 0 12; origin = field w 12 12 }) of.1 ∙ ap {B = Mark} (λ (r : Worth). record { mask = k; raised = r.raised; origin = r.origin }) s.3 in (
       omega (arith, s.0),
-      subst (λ n. Stores (put_by n h w) e) (sym s.0) (subst (Stores (with_mark h w)) (same_more said.1.1)
+      subst (λ n. Stores (put_as n h w) e) (sym (ap numbered s.0)) (subst (Stores (with_mark h w)) (same_more said.1.1)
           (stores_marked (with_mark h w) head (ms ++ (record { mask = k; raised = said.0.raised; origin = said.0.origin } ∷ []))
           (record {
             labels = kept.labels;
@@ -146,12 +145,12 @@ stores_step h (listing head ms cs) e w of is =
       | inr t ↦
           let said = onto_more (entry_of head.states head.actions w) (read_entry head ms cs) e (sym (cond-false _ ends (onto (entry_of head.states head.actions w) (read_entry head ms cs)) t) ∙ is) in
           let s = stores_entry h head ms cs w said.0 e of said.1.0 said.1.1 in
-          (omega (arith, s.0), subst (λ k. Stores (put_by k h w) e) (sym s.0) s.1)
+          (omega (arith, s.0), subst (λ k. Stores (put_as k h w) e) (sym (ap numbered s.0)) s.1)
     ]
 stores_step h (moving head ms cs mv due) e w of is =
     let said = onto_more (move_of head.states w) (read_move head ms cs mv due) e is in
     let s = stores_move h head ms cs mv due w said.0 e of said.1.0 said.1.1 in
-    (omega (arith, s.0), subst (λ k. Stores (put_by k h w) e) (sym s.0) s.1)
+    (omega (arith, s.0), subst (λ k. Stores (put_as k h w) e) (sym (ap numbered s.0)) s.1)
 
 -- the tables at the end of the entries
 module _ (h : Held) (head : Head) (ms : List Mark) (cs : List (List Move)) (of : Keeps h head ms cs) (count : length ms ≡ head.states) (few : length cs ≤ head.states * head.actions) where
@@ -194,26 +193,9 @@ module _ (h : Held) (head : Head) (ms : List Mark) (cs : List (List Move)) (of :
       (subst (λ (l : List ℕ). (k : ℕ) → k + 1 < length l → (get_or l k 0 ≤ get_or l (k + 1) 0) × (get_or l (k + 1) 0 ≤ length (flat (padded (head.states * head.actions) cs)))) (sym edges_at_end)
       (rising (padded (head.states * head.actions) cs)))
 
--- a cell has eight outcomes at most
-moves_few : (states : ℕ) (cs : List (List Move)) → all (good_cell states) cs ≡ true → moves_in cs ≤ 8 * length cs
-moves_few states [] e = omega arith
-moves_few states (c ∷ cs) e =
-    let p = and_parts (good_cell states c) (all (good_cell states) cs) e in
-    omega (arith, (cell_good states c p.0).few, moves_few states cs p.1)
-
-table_room : (head : Head) (cs : List (List Move)) → GoodHead head → all (good_cell head.states) cs ≡ true → length cs ≤ head.states * head.actions → moves_in cs ≤ 262144
-table_room head cs good each few = omega (arith, moves_few head.states cs each, few, mul-le head.states head.actions 4096 8 good.1 good.4)
-
--- there is room for one more word
-pub stores_room : (h : Held) (d : Draft) → Good d → Stores h d → (h.actions ≤ 8) × (length h.moves < 2 ^ 32)
-stores_room h fresh good of = (omega (arith, ap (λ (x : Held). x.actions) of), omega (arith, ap (λ (x : Held). length x.moves) of))
-stores_room h (marking head ms None) good of = (omega (arith, of.actions, good.0.0.4), omega (arith, ap length of.moves))
-stores_room h (marking head ms (Some k)) good of = (omega (arith, of.0.actions, good.0.0.4), omega (arith, ap length of.0.moves))
-stores_room h (listing head ms cs) good of = (omega (arith, of.actions, good.0.0.4), omega (arith, ap length of.moves, flat-length cs, table_room head cs good.0.0 good.1.1.0 good.1.1.1))
-stores_room h (moving head ms cs mv due) good of = (
-  omega (arith, of.actions, good.0.0.4),
-  omega (arith, ap length of.moves, flat-length (cs ++ (mv ∷ [])), moves-append cs (mv ∷ []), table_room head cs good.0.0 good.1.1.0 (omega (arith, good.1.1.1.0)), good.1.1.1.1.1.1),
-)
+-- no other word has the end word's kind
+end_kind : (n : ℕ) → numbered n ≡ Ok End → n ≡ 15
+end_kind n e = grind (arith, e)
 
 -- the pass so far: the tables follow a draft, from which reading on gives the book
 pub record Storing (bytes rest : List ℕ) (c : Counts) (h : Held) : Type 0 where
@@ -244,9 +226,6 @@ ending_whole whole p w last b e =
     ]
 
 module _ (bytes rest : List ℕ) (c : Counts) (h : Held) (s : Storing bytes rest c h) where
-  pub storing_room : (h.actions ≤ 8) × (length h.moves < 2 ^ 32)
-  storing_room = stores_room h s.draft s.good s.kept
-
   -- the book does not end without an end word
   pub storing_long : length rest < 4 → ⊥
   storing_long short = stop_is_no_book (sym (run_short site_format s.draft s.place rest short) ∙ s.left)
@@ -256,9 +235,9 @@ module _ (bytes rest : List ℕ) (c : Counts) (h : Held) (s : Storing bytes rest
     here =
         sym (turn site_format s.draft s.place rest next w (read_word s.draft w) (four, word, after-it) refl) ∙ s.left
 
-    more_by : (st : Step Draft) → read_word s.draft w ≡ st → (kind w ≡ 15 → ⊥) → Storing bytes next c (put_of h w)
+    more_by : (st : Step Draft) → read_word s.draft w ≡ st → (kind_of w ≡ Ok End → ⊥) → Storing bytes next c (put_of h w)
     more_by (wrong r) is inside = absurd (stop_is_no_book (sym (ap (after site_format s.draft s.place w next) is) ∙ here))
-    more_by ends is inside = absurd (inside (end_word_reads s.draft w is))
+    more_by ends is inside = absurd (inside (ap numbered (end_word_reads s.draft w is)))
     more_by (more e) is inside = record {
       book = s.book;
       read = s.read;
@@ -270,7 +249,7 @@ module _ (bytes rest : List ℕ) (c : Counts) (h : Held) (s : Storing bytes rest
       left = sym (ap (after site_format s.draft s.place w next) is) ∙ here;
     }
 
-    pub storing_more : (kind w ≡ 15 → ⊥) → Storing bytes next c (put_of h w)
+    pub storing_more : (kind_of w ≡ Ok End → ⊥) → Storing bytes next c (put_of h w)
     storing_more inside = more_by (read_word s.draft w) refl inside
 
     abbrev pub Closes : Type 0
@@ -291,17 +270,16 @@ module _ (bytes rest : List ℕ) (c : Counts) (h : Held) (s : Storing bytes rest
             rising = rising_at_end h head ms cs kept count few;
             most = s.counted.bound ∙ ap (λ (b : Site). bound_of b.marks) (sym is);
             states = omega (arith, ap length kept.marks, count, good.0.0.1);
-            actions = storing_room.0;
-            small = storing_room.1;
+            actions = omega (arith, kept.actions, good.0.0.4);
           },
         )
 
-    closes_by : (st : Step Draft) → read_word s.draft w ≡ st → kind w ≡ 15 → Closes
-    closes_by (wrong r) is fifteen = absurd (stop_is_no_book (sym (ap (after site_format s.draft s.place w next) is) ∙ here))
-    closes_by (more e) is fifteen = absurd (omega (arith, (stores_step h s.draft e w s.kept is).0))
-    closes_by ends is fifteen =
+    closes_by : (st : Step Draft) → read_word s.draft w ≡ st → kind_of w ≡ Ok End → Closes
+    closes_by (wrong r) is end = absurd (stop_is_no_book (sym (ap (after site_format s.draft s.place w next) is) ∙ here))
+    closes_by (more e) is end = absurd (omega (arith, (stores_step h s.draft e w s.kept is).0, end_kind (kind w) end))
+    closes_by ends is end =
         closes_table s.draft s.good s.kept
         (ending_whole (whole_book s.draft) s.place w (is_nil next) s.book (sym (ap (after site_format s.draft s.place w next) is) ∙ here))
 
-    pub storing_end : kind w ≡ 15 → Closes
-    storing_end fifteen = closes_by (read_word s.draft w) refl fifteen
+    pub storing_end : kind_of w ≡ Ok End → Closes
+    storing_end end = closes_by (read_word s.draft w) refl end

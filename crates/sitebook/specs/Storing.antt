@@ -1,9 +1,13 @@
 -- What storing a book does at each word: the tables as lists, and what a word of each kind puts into them.
 -- The words are those of a file that is known to be a book, so that a word's kind says all that is needed.
-use Rattle.std.specs.Prelude.{◌≡◌, ℕ, ◌+◌, ◌-◌, ◌*◌, ◌^◌, ◌<◌, ◌≤◌, true, cond, List, [], ◌∷◌, ◌++◌, length, replicate, vec_items, ◌==◌, slice_index}
-use Rattle.words.specs.Words.{field, kind}
+use Rattle.std.specs.Prelude.{◌≡◌, ℕ, ◌+◌, ◌-◌, ◌*◌, ◌<◌, ◌≤◌, true, List, [], ◌∷◌, ◌++◌, length, replicate, Ok, Err, Result, vec_items, slice_index}
+use Rattle.refusal.specs.declared.Refusal.{Refusal}
+use Rattle.words.specs.Words.{field}
 use Rattle.sitelayout.specs.declared.Mark.{Mark}
 use Rattle.sitelayout.specs.declared.Move.{Move}
+use Rattle.sitelayout.specs.declared.kind.Kind.{Kind}
+use Rattle.sitelayout.specs.declared.kind.Kind.TheVariants as kinds
+use Rattle.sitelayout.specs.Kinds.{kind_of}
 use Rattle.sitelayout.specs.Site.{Site, valid}
 use Rattle.siteverdict.specs.declared.Counts.{Counts}
 use Rattle.siteverdict.specs.Counting.{bound_of}
@@ -39,27 +43,32 @@ with_mask h w = record { labels = h.labels; actions = h.actions; mask = field w 
 abbrev pub with_mark : Held → ℕ → Held
 with_mark h w = record { labels = h.labels; actions = h.actions; mask = h.mask; marks = h.marks ++ (record { mask = h.mask; raised = field w 0 12; origin = field w 12 12 } ∷ []); starts = h.starts; moves = h.moves }
 
+-- every cell below n has begun
+abbrev pub begun : ℕ → Held → Held
+begun n h = record { labels = h.labels; actions = h.actions; mask = h.mask; marks = h.marks; starts = filled n (length h.moves) h.starts; moves = h.moves }
+
 -- an entry: its cell and all before it have begun
 abbrev pub with_entry : Held → ℕ → Held
-with_entry h w = record { labels = h.labels; actions = h.actions; mask = h.mask; marks = h.marks; starts = filled (field w 0 12 * h.actions + field w 12 3 + 1) (length h.moves) h.starts; moves = h.moves }
+with_entry h w = begun (field w 0 12 * h.actions + field w 12 3 + 1) h
 
 abbrev pub with_move : Held → ℕ → Held
 with_move h w = record { labels = h.labels; actions = h.actions; mask = h.mask; marks = h.marks; starts = h.starts; moves = h.moves ++ (record { target = field w 0 12; weight = field w 12 4 } ∷ []) }
 
-abbrev pub put_by : ℕ → Held → ℕ → Held
-put_by k h w =
-    cond (k == 1) (with_head h w)
-    (cond (k == 2) (with_mask h w)
-    (cond (k == 3) (with_mark h w)
-    (cond (k == 4) (with_entry h w)
-    (cond (k == 5) (with_move h w) h))))
+abbrev pub put_as : Result Kind Refusal → Held → ℕ → Held
+put_as (Ok kinds.Head) h w = with_head h w
+put_as (Ok kinds.Mask) h w = with_mask h w
+put_as (Ok kinds.Reward) h w = with_mark h w
+put_as (Ok kinds.Entry) h w = with_entry h w
+put_as (Ok kinds.Move) h w = with_move h w
+put_as (Ok kinds.End) h w = h
+put_as (Err r) h w = h
 
 abbrev pub put_of : Held → ℕ → Held
-put_of h w = put_by (kind w) h w
+put_of h w = put_as (kind_of w) h w
 
 -- the edges at the end: every cell has begun, and the last has ended
 abbrev pub edges_of : Held → List ℕ
-edges_of h = filled (length h.marks * h.actions + 1) (length h.moves) h.starts
+edges_of h = (begun (length h.marks * h.actions + 1) h).starts
 
 abbrev pub book_of : Held → Site
 book_of h = site_of h.labels h.actions h.marks (edges_of h) h.moves
@@ -71,4 +80,3 @@ pub record Closable (c : Counts) (h : Held) : Type 0 where
   pub most : c.bound ≡ bound_of h.marks
   pub states : length h.marks ≤ 4096
   pub actions : h.actions ≤ 8
-  pub small : length h.moves < 2 ^ 32

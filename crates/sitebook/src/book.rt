@@ -18,7 +18,7 @@ pub struct SiteBook {
     actions: u32,
     bound: u32,
     marks: Vec<Mark>,
-    starts: Vec<u32>,
+    starts: Vec<usize>,
     moves: Vec<Move>,
     ghost sound: { valid (site_of labels actions marks.items starts.items moves.items) ≡ true },
     ghost rising: { (k : ℕ) → k + 1 < length starts.items → (slice_index starts.items k ≤ slice_index starts.items (k + 1)) × (slice_index starts.items (k + 1) ≤ length moves.items) },

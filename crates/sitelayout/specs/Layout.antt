@@ -9,6 +9,8 @@ use Rattle.sitelayout.specs.declared.Entry.{Entry}
 use Rattle.sitelayout.specs.declared.Head.{Head}
 use Rattle.sitelayout.specs.declared.Mark.{Mark}
 use Rattle.sitelayout.specs.declared.Move.{Move}
+use Rattle.sitelayout.specs.declared.kind.Kind.TheVariants.{End}
+use Rattle.sitelayout.specs.Kinds.{number_of}
 use Rattle.sitelayout.specs.OneWord.{word_of_head, word_of_mask, word_of_reward, word_of_entry, word_of_move, head_of, mask_of, reward_of, entry_of, move_of}
 use Rattle.sitelayout.specs.Site.{Site, taken, total, waits}
 
@@ -73,7 +75,7 @@ unfoldable pub read_word : Draft → ℕ → Step Draft
 read_word fresh w = onto (head_of w) (λ h. more (marking h [] None))
 read_word (marking h ms None) w = onto (mask_of h.labels w) (λ m. more (marking h ms (Some m)))
 read_word (marking h ms (Some m)) w = onto (reward_of w) (λ r. more (marked h (ms ++ (record { mask = m; raised = r.raised; origin = r.origin } ∷ []))))
-read_word (listing h ms cs) w = cond (kind w == 15) ends (onto (entry_of h.states h.actions w) (read_entry h ms cs))
+read_word (listing h ms cs) w = cond (kind w == number_of End) ends (onto (entry_of h.states h.actions w) (read_entry h ms cs))
 read_word (moving h ms cs mv due) w = onto (move_of h.states w) (read_move h ms cs mv due)
 
 abbrev pub book_of : Head → List Mark → List (List Move) → Site

@@ -1,3 +1,4 @@
+pub mod Kinds
 pub mod Site
 pub mod OneWord
 pub mod Layout

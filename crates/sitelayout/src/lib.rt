@@ -6,10 +6,14 @@ ghost use Rattle.std.specs.Prelude.{◌≡◌};
 ghost use Rattle.sitelayout.specs.OneWord.{head_of, mask_of, reward_of, entry_of, move_of};
 
 use refusal::Refusal;
-use words::{field, fits};
+use words::{field, fits, open};
+
+mod kind;
+
+pub use kind::Kind;
 
 // How many states, labels and actions a book has.
-#[derive(Clone, Copy)]
+#[derive(Clone, Copy, Debug, PartialEq, Eq)]
 pub struct Head {
     pub states: u32,
     pub labels: u32,
@@ -17,14 +21,14 @@ pub struct Head {
 }
 
 // A state's reward plus 2,000, and the state of another model that it stands for.
-#[derive(Clone, Copy)]
+#[derive(Clone, Copy, Debug, PartialEq, Eq)]
 pub struct Worth {
     pub raised: u16,
     pub origin: u16,
 }
 
 // What a site book says of one state. `raised` is its reward plus 2,000.
-#[derive(Clone, Copy)]
+#[derive(Clone, Copy, Debug, PartialEq, Eq)]
 pub struct Mark {
     pub mask: u32,
     pub raised: u16,
@@ -32,7 +36,7 @@ pub struct Mark {
 }
 
 // An entry: `outcomes` words follow that say what `action` in `state` may lead to.
-#[derive(Clone, Copy)]
+#[derive(Clone, Copy, Debug, PartialEq, Eq)]
 pub struct Entry {
     pub state: u32,
     pub action: u32,
@@ -40,7 +44,7 @@ pub struct Entry {
 }
 
 // One outcome of an entry: where it leads, and its weight in eighths.
-#[derive(Clone, Copy)]
+#[derive(Clone, Copy, Debug, PartialEq, Eq)]
 pub struct Move {
     pub target: u16,
     pub weight: u8,
@@ -49,12 +53,7 @@ pub struct Move {
 pub fn read_head(word: u32) -> Result<Head, Refusal>
     ensures { result ≡ head_of word }
 {
-    if word >> 28 != 1 {
-        return Err(Refusal::WrongKind);
-    }
-    if field(word, 22, 6) != 0 {
-        return Err(Refusal::UnusedBit);
-    }
+    open(word, Kind::Head as u32, 22)?;
     let states = field(word, 0, 13);
     let labels = field(word, 13, 5);
     let actions = field(word, 18, 4);
@@ -71,12 +70,7 @@ pub fn read_head(word: u32) -> Result<Head, Refusal>
 pub fn read_mask(word: u32, labels: u32) -> Result<u32, Refusal>
     ensures { result ≡ mask_of labels word }
 {
-    if word >> 28 != 2 {
-        return Err(Refusal::WrongKind);
-    }
-    if field(word, 24, 4) != 0 {
-        return Err(Refusal::UnusedBit);
-    }
+    open(word, Kind::Mask as u32, 24)?;
     let mask = field(word, 0, 24);
     if !fits(mask, labels) {
         return Err(Refusal::OutOfRange);
@@ -87,12 +81,7 @@ pub fn read_mask(word: u32, labels: u32) -> Result<u32, Refusal>
 pub fn read_reward(word: u32) -> Result<Worth, Refusal>
     ensures { result ≡ reward_of word }
 {
-    if word >> 28 != 3 {
-        return Err(Refusal::WrongKind);
-    }
-    if field(word, 24, 4) != 0 {
-        return Err(Refusal::UnusedBit);
-    }
+    open(word, Kind::Reward as u32, 24)?;
     let raised = field(word, 0, 12) as u16;
     if raised > 4000 {
         return Err(Refusal::OutOfRange);
@@ -106,12 +95,7 @@ pub fn read_reward(word: u32) -> Result<Worth, Refusal>
 pub fn read_entry(word: u32, states: u32, actions: u32) -> Result<Entry, Refusal>
     ensures { result ≡ entry_of states actions word }
 {
-    if word >> 28 != 4 {
-        return Err(Refusal::WrongKind);
-    }
-    if field(word, 19, 9) != 0 {
-        return Err(Refusal::UnusedBit);
-    }
+    open(word, Kind::Entry as u32, 19)?;
     let state = field(word, 0, 12);
     let action = field(word, 12, 3);
     let outcomes = field(word, 15, 4);
@@ -128,12 +112,7 @@ pub fn read_entry(word: u32, states: u32, actions: u32) -> Result<Entry, Refusal
 pub fn read_move(word: u32, states: u32) -> Result<Move, Refusal>
     ensures { result ≡ move_of states word }
 {
-    if word >> 28 != 5 {
-        return Err(Refusal::WrongKind);
-    }
-    if field(word, 16, 12) != 0 {
-        return Err(Refusal::UnusedBit);
-    }
+    open(word, Kind::Move as u32, 16)?;
     let target = field(word, 0, 12);
     let weight = field(word, 12, 4);
     if target >= states || weight < 1 || weight > 8 {

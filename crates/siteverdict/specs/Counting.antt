@@ -1,6 +1,6 @@
 -- What the verdict on a file says: the counts of the book that it is, or the refusal that the reading of it stops at.
 -- The counts are those that storing the book takes, and the largest size of a reward in it.
-use Rattle.std.specs.Prelude.{◌≡◌, ℕ, ◌+◌, ◌-◌, max, Bool, false, ◌||◌, List, [], ◌∷◌, length, Ok, Err, Result, ◌==◌}
+use Rattle.std.specs.Prelude.{◌≡◌, ℕ, ◌+◌, ◌-◌, max, List, [], ◌∷◌, length, Ok, Err, Result}
 use Rattle.refusal.specs.declared.Fault.{Fault}
 use Rattle.words.specs.Format.{Verdict, got, stop}
 use Rattle.sitelayout.specs.declared.Mark.{Mark}
@@ -21,11 +21,6 @@ bound_of (m ∷ ms) = max (size m.raised) (bound_of ms)
 abbrev pub moves_in : List (List Move) → ℕ
 moves_in [] = 0
 moves_in (c ∷ cs) = length c + moves_in cs
-
--- the number t comes in the list
-abbrev pub has : ℕ → List ℕ → Bool
-has t [] = false
-has t (x ∷ xs) = t == x || has t xs
 
 pub record Counted (c : Counts) (b : Site) : Type 0 where
   pub states : c.head.states ≡ length b.marks

@@ -1,183 +1,168 @@
 // What one word does to the state of the pass.
-ghost use Rattle.std.specs.Prelude.{◌≡◌, ℕ, ◌+◌, ◌-◌, ◌*◌, ◌^◌, ◌<◌, ◌≤◌, max, length};
-ghost use Rattle.siteverdict.specs.Counting.{size, has};
-ghost use Rattle.siteverdict.specs.Steps.{Room, TableRoom, OpenRoom, step_of, turn_of_head, turn_of_mask, marked_of, turn_of_reward, turn_of_entry, entered_turn, turn_of_move, added_turn, closed_of};
 
-use crate::state::{Marks, Open, State, Table, Turn};
+#![tactic(auto, unfolding(sitelayout::specs::Layout::read_word, sitelayout::specs::Layout::whole_book))]
+
+ghost use Rattle.std.specs.Prelude.{◌≡◌};
+ghost use Rattle.words.specs.Words.{kind};
+ghost use Rattle.sitelayout.specs.declared.kind.Kind.TheVariants.{End};
+ghost use Rattle.sitelayout.specs.Kinds.{number_of};
+ghost use Rattle.sitelayout.specs.Layout as layout;
+ghost use Rattle.sitelayout.specs.Layout.{read_word, fresh, site_format};
+ghost use Rattle.sitelayout.specs.Site.{Site};
+ghost use Rattle.siteverdict.specs.Counting.{Counted};
+ghost use Rattle.siteverdict.specs.Tracking.{AtMask, AtReward, AtEntry, AtMove, Tracks, Leads};
+
+use crate::Counts;
+use crate::state::{Marks, Open, State, Table};
+use bounded::Bounded;
 use refusal::Refusal;
-use sitelayout::{Entry, Move, read_entry, read_head, read_mask, read_move, read_reward};
+use sitelayout::{Kind, read_entry, read_head, read_mask, read_move, read_reward};
+use words::{Draft, Turn};
 
-pub fn step(state: State, word: u32) -> Turn
-    requires { Room state }
-    ensures { result ≡ step_of state word }
-{
-    match state {
-        State::Fresh => head_turn(word),
-        State::Mask(marks) => mask_turn(marks, word),
-        State::Reward(marks) => reward_turn(marks, word),
-        State::Entry(table) => entry_turn(table, word),
-        State::Move(opened) => move_turn(opened, word),
+impl Draft for State {
+    type Book = Counts;
+
+    ghost Words = { layout.Draft };
+
+    ghost Text = { Site };
+
+    ghost format = { site_format };
+
+    ghost Follows = { Tracks };
+
+    ghost Means = { Counted };
+
+    fn blank() -> State {
+        State::Fresh
+    }
+
+    fn step(&mut self, word: u32) -> Result<Turn, Refusal> {
+        *self = match *self {
+            State::Fresh => State::Mask(Marks::head(word)?),
+            State::Mask(marks) => State::Reward(marks.mask(word)?),
+            State::Reward(marks) => marks.reward(word)?,
+            State::Entry(_) if Kind::try_from(word) == Ok(Kind::End) => return Ok(Turn::End),
+            State::Entry(table) => State::Move(table.entry(word)?),
+            State::Move(open) => open.outcome(word)?,
+        };
+        Ok(Turn::More)
+    }
+
+    // An end word comes after whole entries, and action 0 is offered in every state.
+    fn finish(self) -> Result<Counts, Refusal> {
+        let State::Entry(table) = self else {
+            return Err(Refusal::WrongKind);
+        };
+        if table.waits != table.counts.head.states {
+            return Err(Refusal::NoWait);
+        }
+        Ok(table.counts)
     }
 }
 
-fn head_turn(word: u32) -> Turn
-    ensures { result ≡ turn_of_head word }
-{
-    match read_head(word) {
-        Ok(head) => Turn::More(State::Mask(Marks {
-            head,
+impl Marks {
+    // The head: no state is read yet.
+    fn head(word: u32) -> Result<Marks, Refusal>
+        ensures { Leads AtMask (read_word fresh word) result }
+    {
+        Ok(Marks {
+            head: read_head(word)?,
             read: 0,
             bound: 0,
-        })),
-        Err(refusal) => Turn::Wrong(refusal),
+        })
     }
-}
 
-fn mask_turn(marks: Marks, word: u32) -> Turn
-    ensures { result ≡ turn_of_mask marks word }
-{
-    match read_mask(word, marks.head.labels) {
-        Ok(_) => Turn::More(State::Reward(marks)),
-        Err(refusal) => Turn::Wrong(refusal),
+    // A mask, whose reward is due.
+    fn mask(self, word: u32) -> Result<Marks, Refusal>
+        ensures { (d : layout.Draft) → AtMask self d → Leads AtReward (read_word d word) result }
+    {
+        read_mask(word, self.head.labels)?;
+        Ok(self)
     }
-}
 
-fn reward_turn(marks: Marks, word: u32) -> Turn
-    requires { marks.read < 4096 }
-    ensures { result ≡ turn_of_reward marks word }
-{
-    match read_reward(word) {
-        Ok(worth) => { Turn::More(marked(marks, reward_size(worth.raised))) }
-        Err(refusal) => Turn::Wrong(refusal),
-    }
-}
-
-// How far a reward is from 0, from the reward plus 2,000.
-fn reward_size(raised: u16) -> u32
-    ensures { result ≡ size raised }
-{
-    if raised < 2000 {
-        (2000 - raised) as u32
-    } else {
-        (raised - 2000) as u32
-    }
-}
-
-// One state more: the entries begin after the last.
-fn marked(marks: Marks, worth: u32) -> State
-    requires { marks.read < 4096 }
-    ensures { result ≡ marked_of marks worth }
-{
-    let head = marks.head;
-    let read = marks.read + 1;
-    let bound = marks.bound.max(worth);
-    if read < head.states {
-        State::Mask(Marks { head, read, bound })
-    } else {
-        State::Entry(Table {
-            head,
-            bound,
+    // One state more: the entries begin after the last.
+    fn reward(self, word: u32) -> Result<State, Refusal>
+        ensures { (d : layout.Draft) → AtReward self d → Leads Tracks (read_word d word) result }
+    {
+        let size = read_reward(word)?.raised.abs_diff(2000) as u32;
+        let head = self.head;
+        let read = self.read + 1;
+        let bound = self.bound.max(size);
+        if read < head.states {
+            return Ok(State::Mask(Marks { head, read, bound }));
+        }
+        Ok(State::Entry(Table {
+            counts: Counts {
+                head,
+                moves: 0,
+                bound,
+            },
             cells: 0,
-            moves: 0,
             waits: 0,
+        }))
+    }
+}
+
+impl Table {
+    // Entries rise strictly by state and action.
+    fn entry(self, word: u32) -> Result<Open, Refusal>
+        ensures { (d : layout.Draft) → AtEntry self d → (kind word ≡ number_of End → ⊥) → Leads AtMove (read_word d word) result }
+    {
+        let head = self.counts.head;
+        let entry = read_entry(word, head.states, head.actions)?;
+        let place = entry.state * head.actions + entry.action;
+        if place < self.cells {
+            return Err(Refusal::NotRising);
+        }
+        Ok(Open {
+            table: Table {
+                counts: self.counts,
+                cells: place,
+                waits: self.waits,
+            },
+            due: entry.outcomes - 1,
+            total: 0,
+            targets: Bounded::new(),
         })
     }
 }
 
-fn entry_turn(table: Table, word: u32) -> Turn
-    requires { TableRoom table }
-    ensures { result ≡ turn_of_entry table word }
-{
-    if word >> 28 == 15 {
-        return Turn::End(table);
-    }
-    match read_entry(word, table.head.states, table.head.actions) {
-        Ok(entry) => entered(table, entry),
-        Err(refusal) => Turn::Wrong(refusal),
-    }
-}
-
-// Entries rise strictly by state and action.
-fn entered(table: Table, entry: Entry) -> Turn
-    requires { (TableRoom table) × (entry.state < 4096) × (entry.action < 8) × (1 ≤ entry.outcomes) }
-    ensures { result ≡ entered_turn table entry }
-{
-    let place = entry.state * table.head.actions + entry.action;
-    if place < table.cells {
-        return Turn::Wrong(Refusal::NotRising);
-    }
-    let filled = Table {
-        head: table.head,
-        bound: table.bound,
-        cells: place,
-        moves: table.moves,
-        waits: table.waits,
-    };
-    Turn::More(State::Move(Open {
-        table: filled,
-        due: entry.outcomes - 1,
-        total: 0,
-        len: 0,
-        targets: [0; 8],
-    }))
-}
-
-fn move_turn(opened: Open, word: u32) -> Turn
-    requires { OpenRoom opened }
-    ensures { result ≡ turn_of_move opened word }
-{
-    match read_move(word, opened.table.head.states) {
-        Ok(way) => added(opened, way),
-        Err(refusal) => Turn::Wrong(refusal),
-    }
-}
-
-// No target comes twice in an entry, and the weights of the whole entry total 8.
-fn added(mut opened: Open, way: Move) -> Turn
-    requires { OpenRoom opened }
-    ensures { result ≡ added_turn opened way }
-{
-    if comes_in(way.target, &opened.targets[0..opened.len]) {
-        return Turn::Wrong(Refusal::NotRising);
-    }
-    opened.targets[opened.len] = way.target;
-    opened.len += 1;
-    opened.total += way.weight as u32;
-    if opened.due > 0 {
-        opened.due -= 1;
-        return Turn::More(State::Move(opened));
-    }
-    if opened.total != 8 {
-        return Turn::Wrong(Refusal::WrongTotal);
-    }
-    Turn::More(State::Entry(closed(opened.table, opened.len as u32)))
-}
-
-fn comes_in(target: u16, targets: &[u16]) -> bool
-    ensures { result ≡ has target targets.now }
-{
-    for other in targets {
-        if target == *other {
-            return true;
+impl Open {
+    // No target comes twice in an entry, and the weights of the whole entry total 8.
+    fn outcome(self, word: u32) -> Result<State, Refusal>
+        ensures { (d : layout.Draft) → AtMove self d → Leads Tracks (read_word d word) result }
+    {
+        let Open {
+            table,
+            due,
+            mut total,
+            mut targets,
+        } = self;
+        let way = read_move(word, table.counts.head.states)?;
+        if targets.contains(&way.target) {
+            return Err(Refusal::NotRising);
         }
-    }
-    false
-}
-
-// The table with one more entry of `count` outcomes.
-fn closed(table: Table, count: u32) -> Table
-    requires { (TableRoom table) × (count ≤ 8) }
-    ensures { result ≡ closed_of table count }
-{
-    let mut waits = table.waits;
-    if table.cells == waits * table.head.actions {
-        waits += 1;
-    }
-    Table {
-        head: table.head,
-        bound: table.bound,
-        cells: table.cells + 1,
-        moves: table.moves + count,
-        waits,
+        // There is room: fewer than eight are in.
+        let _ = targets.push(way.target);
+        total += way.weight as u32;
+        if due > 0 {
+            return Ok(State::Move(Open {
+                table,
+                due: due - 1,
+                total,
+                targets,
+            }));
+        }
+        if total != 8 {
+            return Err(Refusal::WrongTotal);
+        }
+        Ok(State::Entry(Table {
+            counts: Counts {
+                moves: table.counts.moves + targets.len() as u32,
+                ..table.counts
+            },
+            cells: table.cells + 1,
+            waits: table.waits + (table.cells == table.waits * table.counts.head.actions) as u32,
+        }))
     }
 }

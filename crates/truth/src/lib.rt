@@ -6,6 +6,7 @@ ghost use Rattle.std.specs.Prelude.{◌≡◌};
 ghost use Rattle.truth.specs.Truth.{labelled, PlainTruth};
 
 // Whether a label holds in a mask. The truth lines rest on this; as verdicts they say what the plain ones say.
+#[tactic(auto, using(crate::proofs::Plain::plain_truth))]
 pub fn shows(mask: u32, label: u32) -> bool
     ensures shows { result ≡ labelled mask label }
     ensures plain { PlainTruth }

@@ -11,5 +11,5 @@ pub fn discount(slot: usize) -> u16
     ensures value { result ≡ discount_of slot }
     ensures rule { Discounted discounts }
 {
-    if slot < 13 { DISCOUNTS[slot] } else { 0 }
+    DISCOUNTS.get(slot).copied().unwrap_or(0)
 }

@@ -11,9 +11,9 @@ mod discounts;
 pub use discounts::discount;
 
 // A value has at most the size 2^59.
-const MOST: i64 = 576_460_752_303_423_488;
+pub const MOST: i64 = 1 << 59;
 
-const LEAST: i64 = -576_460_752_303_423_488;
+const LEAST: i64 = -MOST;
 
 // A joining of values: the weight is that of an outcome, in eighths.
 pub trait Weighing {
@@ -34,11 +34,11 @@ pub trait Weighing {
 }
 
 // The values' mean, eight times.
-#[derive(Clone, Copy)]
+#[derive(Clone, Copy, Debug, PartialEq, Eq)]
 pub struct Mean;
 
 // The least of the values.
-#[derive(Clone, Copy)]
+#[derive(Clone, Copy, Debug, PartialEq, Eq)]
 pub struct Worst;
 
 impl Weighing for Mean {
@@ -84,5 +84,5 @@ impl Weighing for Worst {
 pub fn hold(x: i64) -> i64
     ensures held { result ≡ held x }
 {
-    x.max(LEAST).min(MOST)
+    x.clamp(LEAST, MOST)
 }

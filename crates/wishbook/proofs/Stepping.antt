@@ -1,148 +1,143 @@
 -- What one word adds to what was gathered, and that this is a step of the wish book's format.
-use Rattle.std.proofs.Common.{◌≡◌, ℕ, ◌+◌, ◌%◌, ◌^◌, ◌<◌, ◌≤◌, Bool, true, false, cond, not, ◌&&◌, eqb, ltb, List, [], ◌∷◌, ◌++◌, length, take, set, Ok, Err, Result, sym, refl, ap, ◌∙◌, subst, arith}
-use Rattle.std.proofs.lemmas.List.{length-take-le, take_more_set, length_push}
-use Rattle.std.proofs.lemmas.Bool.{eq-eqb, ne_eqb, lt-ltb}
+use Rattle.std.proofs.Common.{◌≡◌, ℕ, ◌≤◌, Bool, true, false, cond, not, eqb, ltb, List, [], ◌∷◌, ◌++◌, length, Ok, Err, Result, sym, refl, ap, ◌∙◌, subst, arith}
+use Rattle.bounded.specs.Listed.{listed}
 use Rattle.formula.specs.declared.Node.{Node}
 use Rattle.refusal.specs.declared.Refusal.{Refusal}
-use Rattle.refusal.specs.declared.Fault.{Fault}
-use Rattle.refusal.specs.declared.Refusal.TheVariants.{WrongKind, WrongEnd}
+use Rattle.refusal.specs.declared.Refusal.TheVariants.{WrongKind}
 use Rattle.words.specs.Words.{kind}
-use Rattle.words.specs.Format.{wrong, more, ends, check, onto, stop, closing, ending, is_nil, reading}
+use Rattle.words.specs.Format.{Step, wrong, more, ends, check, require, onto}
+use Rattle.words.specs.Drafts.{Stepped}
 use Rattle.words.specs.Tests.{none}
-use Rattle.words.proofs.Tests.{check_passed}
+use Rattle.words.specs.declared.reader.Turn.{Turn}
+use Rattle.words.specs.declared.reader.Turn.TheVariants.{End}
 use Rattle.wishlayout.specs.declared.Wish.{Wish}
-use Rattle.wishlayout.specs.Layout.{noding, wishing, read_wish, read_word, whole_book, wish_format, Good}
+use Rattle.wishlayout.specs.Layout.{Draft, noding, wishing, read_wish, read_word, Good}
 use Rattle.wishlayout.specs.OneWord.{node_of, wish_of}
+use Rattle.wishlayout.proofs.Way.{word_kept}
 use Rattle.wishbook.specs.declared.gathered.Gathered.{Gathered}
+use Rattle.wishbook.specs.Drafts.{draft_with, GoodSoFar}
 use Rattle.wishbook.specs.Gathering.{draft_of}
-use Rattle.wishbook.specs.Gathers.{nodes_in, wishes_in, ended_at, Gathers}
-use Rattle.wishbook.specs.Steps.{NodeAdded, WishAdded, Stepped}
+use Rattle.wishbook.specs.Steps.{Pushed, NodeAdded, WishAdded}
 
-pub node_added : (nodes : List Node) (count w : ℕ) (n : Node) → length nodes ≡ 128 → count < 128 → Ok n ≡ node_of count w → NodeAdded (take count nodes) w (take (count + 1) (set nodes count n)) (Ok false)
-node_added nodes count w n long room said =
-    let size : length (take count nodes) ≡ count = length-take-le count nodes (omega arith) in
-    (omega arith, (n, (ap (λ k. node_of k w) size ∙ sym said, take_more_set nodes count n (omega arith))))
+-- an item more is a step, where the draft after it is followed
+pushed_steps : {X G S : Type 0} (Follows : G → S → Type 0) (s : S) (g' : G) (xs ys : List X) (b : Bool) (r : Refusal) (said : Result X Refusal) (next : List X → S) (answer : Result Turn Refusal)
+    → ((x : X) → ys ≡ xs ++ (x ∷ []) → Follows g' (next (xs ++ (x ∷ []))))
+    → Pushed xs (require b r said) ys answer → Stepped Follows s (check b r (onto said (λ y. more (next (xs ++ (y ∷ [])))))) g' answer
+pushed_steps Follows s g' xs ys true r (Ok x) next answer goes h = (h.0, goes x h.1)
+pushed_steps Follows s g' xs ys true r (Err q) next answer goes h = h.0
+pushed_steps Follows s g' xs ys false r said next answer goes h = h.0
 
-pub wish_added : (nodes : List Node) (wishes : List Wish) (count wished w : ℕ) (x : Wish) → length nodes ≡ 128 → count ≤ 128 → length wishes ≡ 16 → wished < 16 → Ok x ≡ wish_of count w → WishAdded (take count nodes) (take wished wishes) w (take (wished + 1) (set wishes wished x)) (Ok false)
-wish_added nodes wishes count wished w x long few wide room said =
-    let size : length (take count nodes) ≡ count = length-take-le count nodes (omega arith) in
-    let done : length (take wished wishes) ≡ wished = length-take-le wished wishes (omega arith) in
-    (omega arith, (x, (ap (λ k. wish_of k w) size ∙ sym said, take_more_set wishes wished x (omega arith))))
+-- what holds of the list and of each draft that is read holds after it
+pushed_keeps : {X S : Type 0} (P : List X → Type 0) (xs ys : List X) (b : Bool) (r : Refusal) (said : Result X Refusal) (next : List X → S) (answer : Result Turn Refusal)
+    → P xs → ((x : X) → check b r (onto said (λ y. more (next (xs ++ (y ∷ []))))) ≡ more (next (xs ++ (x ∷ []))) → P (xs ++ (x ∷ [])))
+    → Pushed xs (require b r said) ys answer → P ys
+pushed_keeps P xs ys true r (Ok x) next answer p goes h = subst P (sym h.1) (goes x refl)
+pushed_keeps P xs ys true r (Err q) next answer p goes h = subst P (sym h.1) p
+pushed_keeps P xs ys false r said next answer p goes h = subst P (sym h.1) p
 
-node_steps : (ns ms : List Node) (w : ℕ) (r : Result Bool Refusal) → eqb (kind w) 10 ≡ false → NodeAdded ns w ms r → Stepped (noding ns) w (noding ms) r
+abbrev Followed : Gathered → Draft → Type 0
+Followed g d = draft_of g ≡ d
+
+-- the step of a draft that was reached
+stepped : (g g' : Gathered) (w : ℕ) (d s : Draft) (st : Step Draft) (answer : Result Turn Refusal) → draft_of g ≡ d → Followed g s → read_word d w ≡ st → Stepped Followed d st g' answer → Stepped Followed s (read_word s w) g' answer
+stepped g g' w d s st answer at f is steps =
+    subst (λ s. Stepped Followed s (read_word s w) g' answer) (sym at ∙ f) (subst (λ st. Stepped Followed d st g' answer) (sym is) steps)
+
+-- a list with an item more is not empty
+pushed_wishing : (ns : List Node) (ws : List Wish) (x : Wish) → draft_with ns (ws ++ (x ∷ [])) ≡ wishing ns (ws ++ (x ∷ []))
+pushed_wishing ns [] x = refl
+pushed_wishing ns (w ∷ ws) x = refl
+
+pub some_wishing : (ns : List Node) (ws : List Wish) → (length ws ≡ 0 → ⊥) → draft_with ns ws ≡ wishing ns ws
+some_wishing ns [] some = absurd (some refl)
+some_wishing ns (w ∷ ws) some = refl
+
+pub none_noding : (ns : List Node) (ws : List Wish) → length ws ≡ 0 → draft_with ns ws ≡ noding ns
+none_noding ns [] e = refl
+none_noding ns (w ∷ ws) e = absurd (omega arith)
+
+-- the steps of what was gathered: from g to g'
+
+node_word_is : (ns : List Node) (w : ℕ) → eqb (kind w) 10 ≡ false → read_word (noding ns) w ≡ check (ltb (length ns) 128) WrongKind (onto (node_of (length ns) w) (λ n. more (noding (ns ++ (n ∷ [])))))
 unfolding read_word
-node_steps ns ms w (Ok true) isnt e = absurd e
-node_steps ns ms w (Ok false) isnt e =
-    ap (λ b. cond b (check (not (none ns)) WrongKind (read_wish ns [] w)) (check (ltb (length ns) 128) WrongKind (onto (node_of (length ns) w) (λ n. more (noding (ns ++ (n ∷ []))))))) isnt
-    ∙ check_passed (ltb (length ns) 128) WrongKind (onto (node_of (length ns) w) (λ n. more (noding (ns ++ (n ∷ []))))) (lt-ltb (length ns) 128 e.0)
-    ∙ ap (λ s. onto s (λ n. more (noding (ns ++ (n ∷ []))))) e.1.1.0
-    ∙ ap (λ l. more (noding l)) (sym e.1.1.1)
-node_steps ns ms w (Err r) isnt e =
-    ap (λ b. cond b (check (not (none ns)) WrongKind (read_wish ns [] w)) (check (ltb (length ns) 128) WrongKind (onto (node_of (length ns) w) (λ n. more (noding (ns ++ (n ∷ []))))))) isnt
-    ∙ e
+node_word_is ns w isnt = ap (λ b. cond b (check (not (none ns)) WrongKind (read_wish ns [] w)) (check (ltb (length ns) 128) WrongKind (onto (node_of (length ns) w) (λ n. more (noding (ns ++ (n ∷ []))))))) isnt
+
+pub by_node : (g g' : Gathered) (w : ℕ) (s : Draft) (answer : Result Turn Refusal) → length (listed g.wishes) ≡ 0 → eqb (kind w) 10 ≡ false → g'.wishes ≡ g.wishes → NodeAdded (listed g.nodes) w (listed g'.nodes) answer → Followed g s → Stepped Followed s (read_word s w) g' answer
+by_node g g' w s answer z isnt same told f =
+    stepped g g' w (noding (listed g.nodes)) s (check (ltb (length (listed g.nodes)) 128) WrongKind (onto (node_of (length (listed g.nodes)) w) (λ n. more (noding (listed g.nodes ++ (n ∷ [])))))) answer
+    (none_noding (listed g.nodes) (listed g.wishes) z) f (node_word_is (listed g.nodes) w isnt)
+    (pushed_steps Followed (noding (listed g.nodes)) g' (listed g.nodes) (listed g'.nodes) (ltb (length (listed g.nodes)) 128) WrongKind (node_of (length (listed g.nodes)) w) noding answer
+    (λ n more_is. none_noding (listed g'.nodes) (listed g'.wishes) (ap (λ v. length (listed v)) same ∙ z) ∙ ap noding more_is) told)
+
+-- the same of the draft
+
+good_draft : (ns : List Node) (ws : List Wish) → length ws ≤ 16 → GoodSoFar ns ws → Good (draft_with ns ws)
+good_draft ns [] few good = good.0
+good_draft ns (w ∷ ws) few good = (good.0, (good.1.1 (omega arith), (omega arith, (few, good.1.0))))
+
+draft_good : (ns : List Node) (ws : List Wish) → Good (draft_with ns ws) → GoodSoFar ns ws
+draft_good ns [] good = (good, (refl, λ l. absurd (omega arith)))
+draft_good ns (w ∷ ws) good = (good.0, (good.1.1.1.1, λ l. good.1.0))
+
+pub node_good : (ns ms : List Node) (ws : List Wish) (w : ℕ) (answer : Result Turn Refusal) → length ws ≡ 0 → eqb (kind w) 10 ≡ false → GoodSoFar ns ws → NodeAdded ns w ms answer → GoodSoFar ms ws
+node_good ns ms ws w answer z isnt good told =
+    let before = subst Good (none_noding ns ws z) (good_draft ns ws (omega arith) good) in
+    draft_good ms ws
+    (subst Good (sym (none_noding ms ws z))
+    (pushed_keeps (λ l. Good (noding l)) ns ms (ltb (length ns) 128) WrongKind (node_of (length ns) w) noding answer before
+    (λ n e. (word_kept (noding ns) (noding (ns ++ (n ∷ []))) w before (node_word_is ns w isnt ∙ e)).0) told))
 
 first_none : (ns : List Node) (w : ℕ) → length ns ≡ 0 → eqb (kind w) 10 ≡ true → read_word (noding ns) w ≡ wrong WrongKind
 unfolding read_word
 first_none [] w e is = ap (λ b. cond b (wrong WrongKind) (check (ltb 0 128) WrongKind (onto (node_of 0 w) (λ n. more (noding (n ∷ [])))))) is
 first_none (n ∷ ns) w e is = absurd (omega arith)
 
-first_steps : (ns : List Node) (vs : List Wish) (w : ℕ) (r : Result Bool Refusal) → 1 ≤ length ns → eqb (kind w) 10 ≡ true → WishAdded ns [] w vs r → Stepped (noding ns) w (wishing ns vs) r
+pub by_none : (g g' : Gathered) (w : ℕ) (s : Draft) → length (listed g.wishes) ≡ 0 → eqb (kind w) 10 ≡ true → length (listed g.nodes) ≡ 0 → Followed g s → Stepped Followed s (read_word s w) g' (Err WrongKind)
+by_none g g' w s z is none_yet f =
+    stepped g g' w (noding (listed g.nodes)) s (wrong WrongKind) (Err WrongKind) (none_noding (listed g.nodes) (listed g.wishes) z) f (first_none (listed g.nodes) w none_yet is) refl
+
+pub by_end : (g g' : Gathered) (w : ℕ) (s : Draft) → (length (listed g.wishes) ≡ 0 → ⊥) → eqb (kind w) 15 ≡ true → draft_of g' ≡ draft_of g → Followed g s → Stepped Followed s (read_word s w) g' (Ok End)
 unfolding read_word
-first_steps [] vs w r some is e = absurd (omega arith)
-first_steps (n ∷ ns) vs w (Ok true) some is e = absurd e
-first_steps (n ∷ ns) vs w (Ok false) some is e =
-    ap (λ b. cond b (read_wish (n ∷ ns) [] w) (check (ltb (length (n ∷ ns)) 128) WrongKind (onto (node_of (length (n ∷ ns)) w) (λ x. more (noding ((n ∷ ns) ++ (x ∷ []))))))) is
-    ∙ ap (λ s. onto s (λ x. more (wishing (n ∷ ns) (x ∷ [])))) e.1.1.0
-    ∙ ap (λ l. more (wishing (n ∷ ns) l)) (sym e.1.1.1)
-first_steps (n ∷ ns) vs w (Err r) some is e =
-    ap (λ b. cond b (read_wish (n ∷ ns) [] w) (check (ltb (length (n ∷ ns)) 128) WrongKind (onto (node_of (length (n ∷ ns)) w) (λ x. more (noding ((n ∷ ns) ++ (x ∷ []))))))) is
-    ∙ e
+by_end g g' w s some is same f =
+    let at = some_wishing (listed g.nodes) (listed g.wishes) some in
+    stepped g g' w (wishing (listed g.nodes) (listed g.wishes)) s ends (Ok End) at f
+    (ap (λ b. cond b ends (check (ltb (length (listed g.wishes)) 16) WrongKind (read_wish (listed g.nodes) (listed g.wishes) w))) is)
+    (refl, same ∙ at)
 
-wish_steps : (ns : List Node) (ws vs : List Wish) (w : ℕ) (r : Result Bool Refusal) → eqb (kind w) 15 ≡ false → WishAdded ns ws w vs r → Stepped (wishing ns ws) w (wishing ns vs) r
+-- where a wish may come
+first_word_is : (ns : List Node) (w : ℕ) → (length ns ≡ 0 → ⊥) → eqb (kind w) 10 ≡ true → read_word (noding ns) w ≡ read_wish ns [] w
 unfolding read_word
-wish_steps ns ws vs w (Ok true) isnt e = absurd e
-wish_steps ns ws vs w (Ok false) isnt e =
-    ap (λ b. cond b ends (check (ltb (length ws) 16) WrongKind (read_wish ns ws w))) isnt
-    ∙ check_passed (ltb (length ws) 16) WrongKind (read_wish ns ws w) (lt-ltb (length ws) 16 e.0)
-    ∙ ap (λ s. onto s (λ x. more (wishing ns (ws ++ (x ∷ []))))) e.1.1.0
-    ∙ ap (λ l. more (wishing ns l)) (sym e.1.1.1)
-wish_steps ns ws vs w (Err r) isnt e = ap (λ b. cond b ends (check (ltb (length ws) 16) WrongKind (read_wish ns ws w))) isnt ∙ e
+first_word_is [] w some is = absurd (some refl)
+first_word_is (n ∷ ns) w some is = ap (λ b. cond b (read_wish (n ∷ ns) [] w) (check (ltb (length (n ∷ ns)) 128) WrongKind (onto (node_of (length (n ∷ ns)) w) (λ x. more (noding ((n ∷ ns) ++ (x ∷ []))))))) is
 
--- the draft of what was gathered, by whether there is a wish
-
-draft_noding : (g : Gathered) → g.wished ≡ 0 → draft_of g ≡ noding (take g.count g.nodes)
-draft_noding g none_yet = ap (λ b. cond b (noding (take g.count g.nodes)) (wishing (take g.count g.nodes) (take g.wished g.wishes))) (eq-eqb g.wished 0 none_yet)
-
-draft_wishing : (g : Gathered) → (g.wished ≡ 0 → ⊥) → draft_of g ≡ wishing (take g.count g.nodes) (take g.wished g.wishes)
-draft_wishing g some = ap (λ b. cond b (noding (take g.count g.nodes)) (wishing (take g.count g.nodes) (take g.wished g.wishes))) (ne_eqb g.wished 0 some)
-
--- the steps of what was gathered: from g to t
-
-pub by_node : (g t : Gathered) (w : ℕ) (r : Result Bool Refusal) → g.wished ≡ 0 → eqb (kind w) 10 ≡ false → t.wished ≡ g.wished → NodeAdded (take g.count g.nodes) w (take t.count t.nodes) r → Stepped (draft_of g) w (draft_of t) r
-by_node g t w r z isnt same e =
-    subst (λ d. Stepped d w (draft_of t) r) (sym (draft_noding g z)) (subst (λ d. Stepped (noding (take g.count g.nodes)) w d r) (sym (draft_noding t (same ∙ z))) (node_steps (take g.count g.nodes) (take t.count t.nodes) w r isnt e))
-
-pub by_none : (g : Gathered) (w : ℕ) → g.wished ≡ 0 → eqb (kind w) 10 ≡ true → g.count ≡ 0 → Stepped (draft_of g) w (draft_of g) (Err WrongKind)
-by_none g w z is none_yet = ap (λ d. read_word d w) (draft_noding g z) ∙ first_none (take g.count g.nodes) w (ap (λ k. length (take k g.nodes)) none_yet) is
-
-pub by_end : (g : Gathered) (w : ℕ) → (g.wished ≡ 0 → ⊥) → eqb (kind w) 15 ≡ true → Stepped (draft_of g) w (draft_of g) (Ok true)
+next_word_is : (ns : List Node) (ws : List Wish) (w : ℕ) → eqb (kind w) 15 ≡ false → read_word (wishing ns ws) w ≡ check (ltb (length ws) 16) WrongKind (read_wish ns ws w)
 unfolding read_word
-by_end g w some is = (ap (λ d. read_word d w) (draft_wishing g some) ∙ ap (λ b. cond b ends (check (ltb (length (take g.wished g.wishes)) 16) WrongKind (read_wish (take g.count g.nodes) (take g.wished g.wishes) w))) is, refl)
+next_word_is ns ws w isnt = ap (λ b. cond b ends (check (ltb (length ws) 16) WrongKind (read_wish ns ws w))) isnt
 
--- what a refused wish leaves does not matter; a wish that was added makes one more
-added_some : (g t : Gathered) (w : ℕ) → WishAdded (take g.count g.nodes) (take g.wished g.wishes) w (take t.wished t.wishes) (Ok false) → t.wished ≡ 0 → ⊥
-added_some g t w e z =
-    let size = ap length e.1.1.1 ∙ length_push (take g.wished g.wishes) e.1.0 in
-    omega (arith, size, ap (λ k. length (take k t.wishes)) z)
+-- a wish may come next
+abbrev Wishing : List Node → List Wish → ℕ → Type 0
+Wishing ns ws w = read_word (draft_with ns ws) w ≡ check (ltb (length ws) 16) WrongKind (read_wish ns ws w)
 
-pub by_first : (g t : Gathered) (w : ℕ) (r : Result Bool Refusal) → g.wished ≡ 0 → eqb (kind w) 10 ≡ true → 1 ≤ length (take g.count g.nodes) → take t.count t.nodes ≡ take g.count g.nodes
-    → WishAdded (take g.count g.nodes) (take g.wished g.wishes) w (take t.wished t.wishes) r → Stepped (draft_of g) w (draft_of t) r
-by_first g t w (Ok true) z is some same e = absurd e
-by_first g t w (Ok false) z is some same e =
-    ap (λ d. read_word d w) (draft_noding g z)
-    ∙ first_steps (take g.count g.nodes) (take t.wished t.wishes) w (Ok false) some is (subst (λ k. WishAdded (take g.count g.nodes) (take k g.wishes) w (take t.wished t.wishes) (Ok false)) z e)
-    ∙ ap (λ l. more (wishing l (take t.wished t.wishes))) (sym same)
-    ∙ ap more (sym (draft_wishing t (added_some g t w e)))
-by_first g t w (Err r) z is some same e =
-    ap (λ d. read_word d w) (draft_noding g z)
-    ∙ first_steps (take g.count g.nodes) (take t.wished t.wishes) w (Err r) some is (subst (λ k. WishAdded (take g.count g.nodes) (take k g.wishes) w (take t.wished t.wishes) (Err r)) z e)
+empty : {X : Type 0} (xs : List X) → length xs ≡ 0 → xs ≡ []
+empty [] e = refl
+empty (x ∷ xs) e = absurd (omega arith)
 
-pub by_wish : (g t : Gathered) (w : ℕ) (r : Result Bool Refusal) → (g.wished ≡ 0 → ⊥) → eqb (kind w) 15 ≡ false → take t.count t.nodes ≡ take g.count g.nodes
-    → WishAdded (take g.count g.nodes) (take g.wished g.wishes) w (take t.wished t.wishes) r → Stepped (draft_of g) w (draft_of t) r
-by_wish g t w (Ok true) z isnt same e = absurd e
-by_wish g t w (Ok false) z isnt same e =
-    ap (λ d. read_word d w) (draft_wishing g z)
-    ∙ wish_steps (take g.count g.nodes) (take g.wished g.wishes) (take t.wished t.wishes) w (Ok false) isnt e
-    ∙ ap (λ l. more (wishing l (take t.wished t.wishes))) (sym same)
-    ∙ ap more (sym (draft_wishing t (added_some g t w e)))
-by_wish g t w (Err r) z isnt same e =
-    ap (λ d. read_word d w) (draft_wishing g z)
-    ∙ wish_steps (take g.count g.nodes) (take g.wished g.wishes) (take t.wished t.wishes) w (Err r) isnt e
+pub first_wish : (ns : List Node) (ws : List Wish) (w : ℕ) → length ws ≡ 0 → eqb (kind w) 10 ≡ true → (length ns ≡ 0 → ⊥) → Wishing ns ws w
+first_wish ns ws w z is some = subst (λ ws. Wishing ns ws w) (sym (empty ws z)) (first_word_is ns w some is)
 
--- only an end word ends
+pub next_wish : (ns : List Node) (ws : List Wish) (w : ℕ) → (length ws ≡ 0 → ⊥) → eqb (kind w) 15 ≡ false → Wishing ns ws w
+next_wish ns ws w some isnt = ap (λ d. read_word d w) (some_wishing ns ws some) ∙ next_word_is ns ws w isnt
 
-pub err_no_end : (r : Refusal) → ◌≡◌ {A = Result Bool Refusal} (Err r) (Ok true) → ⊥
-err_no_end r e = let z : ◌≡◌ {A = ℕ} 0 1 = cc in omega arith
+pub by_wish : (g g' : Gathered) (w : ℕ) (s : Draft) (answer : Result Turn Refusal) → Wishing (listed g.nodes) (listed g.wishes) w
+    → g'.nodes ≡ g.nodes → WishAdded (length (listed g.nodes)) (listed g.wishes) w (listed g'.wishes) answer → Followed g s → Stepped Followed s (read_word s w) g' answer
+by_wish g g' w s answer is same told f =
+    stepped g g' w (draft_of g) s (check (ltb (length (listed g.wishes)) 16) WrongKind (read_wish (listed g.nodes) (listed g.wishes) w)) answer refl f is
+    (pushed_steps Followed (draft_of g) g' (listed g.wishes) (listed g'.wishes) (ltb (length (listed g.wishes)) 16) WrongKind (wish_of (length (listed g.nodes)) w) (wishing (listed g.nodes)) answer
+    (λ x more_is. (λ i. draft_with (listed (same i)) (more_is i)) ∙ pushed_wishing (listed g.nodes) (listed g.wishes) x) told)
 
-more_no_end : ◌≡◌ {A = Result Bool Refusal} (Ok false) (Ok true) → ⊥
-more_no_end e = let z : ◌≡◌ {A = ℕ} 0 1 = cc in omega arith
-
-pub not_ended_node : (ns : List Node) (w : ℕ) (ms : List Node) (r : Result Bool Refusal) → NodeAdded ns w ms r → {P : Type 0} → r ≡ Ok true → P
-not_ended_node ns w ms (Ok true) a e = absurd a
-not_ended_node ns w ms (Ok false) a e = absurd (more_no_end e)
-not_ended_node ns w ms (Err r) a e = absurd (err_no_end r e)
-
-pub not_ended_wish : (ns : List Node) (ws : List Wish) (w : ℕ) (vs : List Wish) (r : Result Bool Refusal) → WishAdded ns ws w vs r → {P : Type 0} → r ≡ Ok true → P
-not_ended_wish ns ws w vs (Ok true) a e = absurd a
-not_ended_wish ns ws w vs (Ok false) a e = absurd (more_no_end e)
-not_ended_wish ns ws w vs (Err r) a e = absurd (err_no_end r e)
-
--- at the end word: what was gathered is judged next, or the end word is wrong
-pub gathered_end : (bytes : List ℕ) (g t : Gathered) (p w : ℕ) (rest : List ℕ) (last : Bool) (r : Result (Gathered × ℕ) Fault)
-    → reading wish_format bytes ≡ ending (whole_book (draft_of g)) p w (is_nil rest) → Good (draft_of g) → draft_of t ≡ draft_of g → (t.wished ≡ 0 → ⊥) → last ≡ (eqb (w % 2 ^ 28) p && is_nil rest) → r ≡ ended_at t p last → Gathers bytes r
-gathered_end bytes g t p w rest true r e good same some is out =
-    let whole : draft_of g ≡ wishing (nodes_in t) (wishes_in t) = sym same ∙ draft_wishing t some in
-    subst (Gathers bytes) (sym out)
-    (e ∙ ap (λ b. cond b (closing (whole_book (draft_of g)) p) (stop WrongEnd p)) (sym is) ∙ ap (λ d. closing (whole_book d) p) whole, subst Good whole good)
-gathered_end bytes g t p w rest false r e good same some is out =
-    subst (Gathers bytes) (sym out) (e ∙ ap (λ b. cond b (closing (whole_book (draft_of g)) p) (stop WrongEnd p)) (sym is))
+pub wish_good : (ns : List Node) (ws vs : List Wish) (w : ℕ) (answer : Result Turn Refusal) → length ws ≤ 16 → Wishing ns ws w → GoodSoFar ns ws → WishAdded (length ns) ws w vs answer → GoodSoFar ns vs
+wish_good ns ws vs w answer few is good told =
+    let before = good_draft ns ws few good in
+    draft_good ns vs
+    (pushed_keeps (λ l. Good (draft_with ns l)) ws vs (ltb (length ws) 16) WrongKind (wish_of (length ns) w) (wishing ns) answer before
+    (λ x e. subst Good (sym (pushed_wishing ns ws x)) (word_kept (draft_with ns ws) (wishing ns (ws ++ (x ∷ []))) w before (is ∙ e)).0) told)

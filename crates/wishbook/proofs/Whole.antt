@@ -1,65 +1,50 @@
--- From what was gathered to the book: tables that are filled by a rule, the items, and that the book is what its words come to.
-use Rattle.std.proofs.Common.{◌≡◌, ℕ, ◌+◌, ◌-◌, ◌<◌, ◌≤◌, Bool, true, false, cond, ltb, List, [], ◌∷◌, ◌++◌, map, length, get_or, take, set, replicate, Some, None, Ok, Err, Option, sym, refl, ap, ◌∙◌, subst, inl, inr, arith}
-use native.Mathlib.Nat.{sub-zero}
-use Rattle.std.proofs.lemmas.List.{take_more_set, map_more, take_all, take_at, length-take-le}
-use Rattle.formula.specs.declared.Item.{Item}
+-- From what was gathered to the book: the items, that the book is what its words come to, and what the reader answers.
+use Rattle.std.proofs.Common.{◌≡◌, ℕ, ◌<◌, ◌≤◌, true, cond, ltb, leb, List, [], ◌∷◌, map, length, get_or, take, Some, None, Ok, Err, Option, Result, sym, refl, ap, ◌∙◌, subst, inl, inr, arith}
 use Rattle.formula.specs.declared.Node.{Node}
 use Rattle.formula.specs.Formulas.{earlier}
-use Rattle.formula.specs.Items.{Keeps, kept_items}
+use Rattle.formula.specs.Items.{kept_items}
 use Rattle.formula.specs.Merging.{nodes_of, numbers_of, Written, Merges, Faithful}
 use Rattle.formula.specs.Resting.{resting}
 use Rattle.formula.proofs.Faithful.{faithful}
-use Rattle.formula.proofs.Marks.{length-resting}
 use Rattle.formula.proofs.Tables.{nodes_of-length}
 use Rattle.std.proofs.lemmas.Bool.{and_parts, and_from, ltb-true, lt-ltb, le-leb, lt-leb}
-use Rattle.refusal.specs.declared.Refusal.{Refusal}
-use Rattle.refusal.specs.declared.Refusal.TheVariants.{TooManyItems}
-use Rattle.words.specs.Format.{got, stop, closing}
+use Rattle.std.specs.Option.{IsSome}
+use Rattle.std.proofs.lemmas.List.{take_all, length-take}
+use Rattle.refusal.specs.declared.Refusal.TheVariants.{WrongKind, TooManyItems}
+use Rattle.words.specs.Drafts.{Finished}
 use Rattle.words.specs.Tests.{all}
 use Rattle.wishlayout.specs.declared.Wish.{Wish}
-use Rattle.wishlayout.specs.Layout.{wishing, whole_book, Good}
-use Rattle.wishlayout.specs.Wishes.{items_for, good_wish}
+use Rattle.wishlayout.specs.Layout.{Draft, whole_book}
+use Rattle.wishlayout.specs.Wishes.{Wishes, items_for, good_wish}
 use Rattle.wishlayout.proofs.Way.{validly}
-use Rattle.wishbook.specs.Book.{renamed, book_of, sound, items_over, meant, SameWishes}
-use Rattle.wishbook.specs.Contents.{Remembered}
-use Rattle.wishbook.specs.Gathers.{nodes_in, wishes_in}
+use Rattle.bounded.specs.Listed.{listed}
+use Rattle.bounded.specs.declared.Bounded.{Bounded}
+use Rattle.refusal.specs.declared.Refusal.{Refusal}
+use Rattle.wishbook.specs.declared.book.WishBook.{WishBook}
 use Rattle.wishbook.specs.declared.gathered.Gathered.{Gathered}
+use Rattle.wishbook.specs.Gathering.{draft_of}
+use Rattle.wishbook.proofs.Stepping.{none_noding, some_wishing}
+use Rattle.wishbook.specs.Book.{renamed, book_of, sound, items_over, meant, SameWishes}
+use Rattle.wishbook.specs.Contents.{contents}
 
--- a table that is filled place by place
-pub mapped_more : {X Y : Type 0} (f : X → Y) (xs : List X) (out : List Y) (i : ℕ) (y : Y) (d : X) → i < length xs → i < length out → y ≡ f (get_or xs i d) → take i out ≡ map f (take i xs) → take (i + 1) (set out i y) ≡ map f (take (i + 1) xs)
-mapped_more f xs out i y d h k is so =
-    take_more_set out i y k ∙ (λ j. so j ++ (is j ∷ [])) ∙ sym (map_more f xs i d h)
+-- a book is small
 
-pub mapped_all : {X Y : Type 0} (f : X → Y) (xs : List X) (out : List Y) (i : ℕ) → i ≡ length xs → take i out ≡ map f (take i xs) → take (length xs) out ≡ map f xs
-mapped_all f xs out i e so = ap (λ n. take n out) (sym e) ∙ so ∙ ap (map f) (take_all i xs (omega arith))
+few_of : {X : Type 0} {most : ℕ} (b : Bounded X most) → length (listed b) ≤ most
+few_of {most = most} b = omega (arith, length-take b.len b.places, b.fits)
 
--- the items that are kept of nodes that rest on the roots of the wishes
-pub remembered : (nodes : List Node) (wishes : List Wish) (rs : List ℕ) (ms us : List Bool) (old new : List Item) (r : Option ℕ) → length nodes ≤ 128 → length old ≡ 16 → rs ≡ map (λ w. w.node) wishes
-    → ms ≡ resting nodes rs ++ replicate (128 - length nodes) false → us ≡ take (length nodes) ms → Keeps nodes us old new r → Remembered (items_over nodes wishes) new r
-remembered nodes wishes rs ms us old new r few long roots marks used kept =
-    let same : us ≡ resting nodes (map (λ w. w.node) wishes) =
-    used ∙ ap (take (length nodes)) marks ∙ take_at (resting nodes rs) (replicate (128 - length nodes) false) (length nodes) (length-resting nodes rs) ∙ ap (resting nodes) roots in
-    by_answer r (subst (λ u. Keeps nodes u old new r) same kept)
-  where
-    by_answer : (r : Option ℕ) → Keeps nodes (resting nodes (map (λ w. w.node) wishes)) old new r → Remembered (items_over nodes wishes) new r
-    by_answer (Some n) k = (omega (arith, k.1, long), k.3)
-    by_answer None (inl k) = absurd (omega (arith, k.0, few))
-    by_answer None (inr k) = omega (arith, k.1, long)
+pub few_nodes : (b : WishBook) → length (contents b).nodes ≤ 128
+few_nodes b = few_of b.nodes
+
+pub few_wishes : (b : WishBook) → length (contents b).wishes ≤ 16
+few_wishes b = few_of b.wishes
+
+pub few_items : (b : WishBook) → length (contents b).items ≤ 16
+few_items b = few_of b.items
 
 -- merging at most 128 words into tables of 128 places always goes
 pub always_merges : {nodes nodes' : List Node} {numbers numbers' : List ℕ} (ns : List Node) → length ns ≤ 128 → length nodes ≡ 128 → length numbers ≡ 128 → Merges ns nodes nodes' numbers numbers' None → ⊥
 always_merges ns few a b (inl u) = elim u.why [ inl h ↦ omega arith | inr h ↦ omega arith ]
 always_merges ns few a b (inr o) = omega (arith, o.over, nodes_of-length ns)
-
--- the different nodes, and the numbers of the words
-pub merged_tables : {nodes nodes' : List Node} {numbers numbers' : List ℕ} (some ns : List Node) (n : ℕ) → some ≡ ns → Written some nodes nodes' numbers numbers' n → (take n nodes' ≡ nodes_of ns) × (take (length ns) numbers' ≡ numbers_of ns) × (n ≡ length (nodes_of ns))
-merged_tables {nodes} {nodes'} {numbers} {numbers'} some ns n e w =
-    let told = subst (λ l. Written l nodes nodes' numbers numbers' n) e w in
-    (told.nodes_are, told.numbers_are, told.count)
-
-pub renamed_table : (ws vs : List Wish) (ks numbers : List ℕ) (out : List Wish) (n : ℕ) → ws ≡ vs → ks ≡ numbers → length vs ≡ n → take (length ws) out ≡ map (renamed ks) ws → take n out ≡ map (renamed numbers) vs
-renamed_table ws vs ks numbers out n a b long e =
-    ap (λ k. take k out) (sym long ∙ ap length (sym a)) ∙ e ∙ (λ i. map (renamed (b i)) (a i))
 
 renamed_roots : (numbers : List ℕ) (ws : List Wish) → map (λ w. w.node) (map (renamed numbers) ws) ≡ map (λ r. get_or numbers r 0) (map (λ w. w.node) ws)
 renamed_roots numbers [] = refl
@@ -95,56 +80,56 @@ meant_same ns (w ∷ ws) f each =
 pub same_wishes : SameWishes
 same_wishes f e = let v = validly f e in meant_same f.nodes f.wishes (faithful f.nodes v.operands) v.amounts
 
--- the tables of the book that was gathered
-pub record Tables (g : Gathered) (nodes' : List Node) (count : ℕ) (wishes' : List Wish) : Type 0 where
-  pub nodes_are : take count nodes' ≡ nodes_of (nodes_in g)
-  pub wishes_are : take g.wished wishes' ≡ map (renamed (numbers_of (nodes_in g))) (wishes_in g)
-  pub count_is : count ≡ length (nodes_of (nodes_in g))
+-- the book of what was gathered
 
-pub whole_tables : {nodes nodes' : List Node} {numbers numbers' : List ℕ} (g : Gathered) (count : ℕ) (wishes' : List Wish) → Written (take (g.count - 0) g.nodes) nodes nodes' numbers numbers' count
-    → take (length (take (g.wished - 0) g.wishes)) wishes' ≡ map (renamed (take (g.count - 0) numbers')) (take (g.wished - 0) g.wishes) → Tables g nodes' count wishes'
-whole_tables {nodes} {nodes'} {numbers} {numbers'} g count wishes' w e =
-    let told = merged_tables (take (g.count - 0) g.nodes) (nodes_in g) count (ap (λ n. take n g.nodes) (sub-zero g.count)) w in
-    let size : length (nodes_in g) ≡ g.count = length-take-le g.count g.nodes (omega (arith, g.few.0, g.few.1)) in
-    record {
-      nodes_are = told.0;
-      wishes_are = renamed_table (take (g.wished - 0) g.wishes) (wishes_in g) (take (g.count - 0) numbers') (numbers_of (nodes_in g)) wishes' g.wished
-          (ap (λ n. take n g.wishes) (sub-zero g.wished)) (ap (λ n. take n numbers') (sub-zero g.count ∙ sym size) ∙ told.1) (length-take-le g.wished g.wishes (omega (arith, g.few.2, g.few.3))) e;
-      count_is = told.2;
-    }
+abbrev pub Means : WishBook → Wishes → Type 0
+Means book text = contents book ≡ book_of text
 
-module _ (g : Gathered) (nodes' : List Node) (count : ℕ) (wishes' : List Wish) (t : Tables g nodes' count wishes') (good : Good (wishing (nodes_in g) (wishes_in g))) where
-  pub count_few : count ≤ 128
-  count_few = omega (arith, t.count_is, nodes_of-length (nodes_in g), good.0.1.1)
+module _ (g : Gathered) where
+  -- its nodes and wishes
+  pub book_sound : (nodes : List Node) (wishes : List Wish) → nodes ≡ nodes_of (listed g.nodes) → wishes ≡ map (renamed (numbers_of (listed g.nodes))) (listed g.wishes) → sound nodes wishes ≡ true
+  book_sound nodes wishes e f = (λ i. sound (e i) (f i)) ∙ whole_sound (listed g.nodes) (listed g.wishes) g.good.0.0 g.good.1.0
 
-  pub tables_sound : sound (take count nodes') (take g.wished wishes') ≡ true
-  tables_sound = (λ i. sound (t.nodes_are i) (t.wishes_are i)) ∙ whole_sound (nodes_in g) (wishes_in g) good.0.0 good.1.1.1.1
+  items_known : (nodes : List Node) (wishes : List Wish) → nodes ≡ nodes_of (listed g.nodes) → wishes ≡ map (renamed (numbers_of (listed g.nodes))) (listed g.wishes) → items_over nodes wishes ≡ items_for (listed g.nodes) (listed g.wishes)
+  items_known nodes wishes e f = (λ i. items_over (e i) (f i)) ∙ items_same (listed g.nodes) (listed g.wishes)
 
-  items_cut : items_over (take (count - 0) nodes') (take (g.wished - 0) wishes') ≡ items_over (take count nodes') (take g.wished wishes')
-  items_cut = λ i. items_over (take (sub-zero count i) nodes') (take (sub-zero g.wished i) wishes')
+  -- an end word comes only after a wish
+  pub unwished : (s : Draft) → length (listed g.wishes) ≡ 0 → draft_of g ≡ s → Finished Means (whole_book s) (Err WrongKind)
+  unfolding whole_book
+  unwished s z f = subst (λ s. Finished Means (whole_book s) (Err WrongKind)) (sym (none_noding (listed g.nodes) (listed g.wishes) z) ∙ f) refl
 
-  items_all : items_over (take count nodes') (take g.wished wishes') ≡ items_for (nodes_in g) (wishes_in g)
-  items_all = (λ i. items_over (t.nodes_are i) (t.wishes_are i)) ∙ items_same (nodes_in g) (wishes_in g)
+  wished : (s : Draft) (answer : Result WishBook Refusal) → (length (listed g.wishes) ≡ 0 → ⊥) → draft_of g ≡ s
+      → Finished Means (cond (leb (length (items_for (listed g.nodes) (listed g.wishes))) 16) (Ok (record { nodes = listed g.nodes; wishes = listed g.wishes })) (Err TooManyItems)) answer → Finished Means (whole_book s) answer
+  unfolding whole_book
+  wished s answer some f told = subst (λ s. Finished Means (whole_book s) answer) (sym (some_wishing (listed g.nodes) (listed g.wishes) some) ∙ f) told
 
-  pub tables_remember : (items : List Item) (kept : ℕ) → Remembered (items_over (take (count - 0) nodes') (take (g.wished - 0) wishes')) items (Some kept) → take kept items ≡ items_over (take count nodes') (take g.wished wishes')
-  tables_remember items kept r = r.1 ∙ items_cut
+  pub overfull : (s : Draft) (nodes : List Node) (wishes : List Wish) → (length (listed g.wishes) ≡ 0 → ⊥) → draft_of g ≡ s → nodes ≡ nodes_of (listed g.nodes) → wishes ≡ map (renamed (numbers_of (listed g.nodes))) (listed g.wishes)
+      → 16 < length (items_over nodes wishes) → Finished Means (whole_book s) (Err TooManyItems)
+  overfull s nodes wishes some f en ew many =
+      wished s (Err TooManyItems) some f
+      (subst (λ t. Finished Means (cond t (Ok (record { nodes = listed g.nodes; wishes = listed g.wishes })) (Err TooManyItems)) (Err TooManyItems))
+      (sym (lt-leb (length (items_for (listed g.nodes) (listed g.wishes))) 16 (omega (arith, many, ap length (items_known nodes wishes en ew))))) refl)
 
-  pub tables_few : (items : List Item) (kept : ℕ) → length items ≡ 16 → Remembered (items_over (take (count - 0) nodes') (take (g.wished - 0) wishes')) items (Some kept) → length (items_for (nodes_in g) (wishes_in g)) ≤ 16
-  tables_few items kept long r = omega (arith, ap length (sym (tables_remember items kept r ∙ items_all)), length-take-le kept items (omega (arith, r.0, long)), r.0)
+  pub made : (s : Draft) (b : WishBook) → (length (listed g.wishes) ≡ 0 → ⊥) → draft_of g ≡ s → listed b.nodes ≡ nodes_of (listed g.nodes) → listed b.wishes ≡ map (renamed (numbers_of (listed g.nodes))) (listed g.wishes)
+      → Finished Means (whole_book s) (Ok b)
+  made s b some f en ew =
+      let items : listed b.items ≡ items_for (listed g.nodes) (listed g.wishes) = b.remembers ∙ items_known (listed b.nodes) (listed b.wishes) en ew in
+      wished s (Ok b) some f
+      (subst (λ t. Finished Means (cond t (Ok (record { nodes = listed g.nodes; wishes = listed g.wishes })) (Err TooManyItems)) (Ok b))
+      (sym (le-leb (length (items_for (listed g.nodes) (listed g.wishes))) 16 (omega (arith, ap length items, few_items b))))
+      (λ i. record { nodes = en i; wishes = ew i; items = items i }))
 
-  pub tables_book : (items : List Item) (kept : ℕ) → Remembered (items_over (take (count - 0) nodes') (take (g.wished - 0) wishes')) items (Some kept)
-      → record { nodes = take count nodes'; wishes = take g.wished wishes'; items = take kept items } ≡ book_of (record { nodes = nodes_in g; wishes = wishes_in g })
-  tables_book items kept r = λ i. record { nodes = t.nodes_are i; wishes = t.wishes_are i; items = (tables_remember items kept r ∙ items_all) i }
+-- what merging leaves in its tables
+pub merged_some : (ns nodes nodes' : List Node) (numbers numbers' : List ℕ) (r : Option ℕ) → length ns ≤ 128 → length nodes ≡ 128 → length numbers ≡ 128 → Merges ns nodes nodes' numbers numbers' r → IsSome r
+merged_some ns nodes nodes' numbers numbers' (Some n) few a b m = refl
+merged_some ns nodes nodes' numbers numbers' None few a b m = absurd (always_merges ns few a b m)
 
-  pub tables_over : (items : List Item) → Remembered (items_over (take (count - 0) nodes') (take (g.wished - 0) wishes')) items None → 16 < length (items_for (nodes_in g) (wishes_in g))
-  tables_over items r = omega (arith, r, ap length (items_cut ∙ items_all))
+module _ (ns nodes nodes' : List Node) (numbers numbers' : List ℕ) (r : Option ℕ) (n : ℕ) (few : length ns ≤ 128) (m : Merges ns nodes nodes' numbers numbers' r) (is : r ≡ Some n) where
+  tables : Written ns nodes nodes' numbers numbers' n
+  tables = subst (Merges ns nodes nodes' numbers numbers') is m
 
--- what was gathered reads as a book, or as one with too many items
-pub reads_whole : (ns : List Node) (ws : List Wish) (p : ℕ) → length (items_for ns ws) ≤ 16 → closing (whole_book (wishing ns ws)) p ≡ got (record { nodes = ns; wishes = ws })
-unfolding whole_book
-reads_whole ns ws p few = ap (λ t. closing (cond t (Ok (record { nodes = ns; wishes = ws })) (Err TooManyItems)) p) (le-leb (length (items_for ns ws)) 16 few)
+  pub merged_nodes : take 128 (take n nodes') ≡ nodes_of ns
+  merged_nodes = ap (take 128) tables.nodes_are ∙ take_all 128 (nodes_of ns) (omega (arith, nodes_of-length ns))
 
-pub reads_over : (ns : List Node) (ws : List Wish) (p : ℕ) (r : Refusal) → (16 < length (items_for ns ws)) × (r ≡ TooManyItems) → closing (whole_book (wishing ns ws)) p ≡ stop r p
-unfolding whole_book
-reads_over ns ws p r (many, is) =
-    ap (λ t. closing (cond t (Ok (record { nodes = ns; wishes = ws })) (Err TooManyItems)) p) (lt-leb (length (items_for ns ws)) 16 many) ∙ ap (λ x. stop x p) (sym is)
+  pub merged_numbers : take 128 (take (length ns) numbers') ≡ numbers_of ns
+  merged_numbers = take_all 128 (take (length ns) numbers') (omega (arith, length-take (length ns) numbers')) ∙ tables.numbers_are

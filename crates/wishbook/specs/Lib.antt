@@ -1,5 +1,5 @@
 pub mod Steps
+pub mod Drafts
 pub mod Gathering
-pub mod Gathers
 pub mod Book
 pub mod Contents

@@ -1,18 +1,17 @@
-// What has been read of a wish book so far.
-ghost use Rattle.std.specs.Prelude.{◌≡◌, ◌≤◌, length};
+// What has been read of a wish book so far: the node words, and the wishes after them.
+ghost use Rattle.bounded.specs.Listed.{listed};
+ghost use Rattle.wishbook.specs.Drafts.{GoodSoFar};
 
+use bounded::Bounded;
 use formula::Node;
 use wishlayout::Wish;
 
+mod make;
 mod steps;
-mod whole;
 
-// The first `count` node words and the first `wished` wishes.
 #[derive(Clone, Copy)]
 pub struct Gathered {
-    nodes: [Node; 128],
-    count: usize,
-    wishes: [Wish; 16],
-    wished: usize,
-    ghost few: { (length nodes ≡ 128) × (count ≤ 128) × (length wishes ≡ 16) × (wished ≤ 16) },
+    nodes: Bounded<Node, 128>,
+    wishes: Bounded<Wish, 16>,
+    ghost good: { GoodSoFar (listed nodes) (listed wishes) },
 }

@@ -3,7 +3,6 @@
 #![tactic(auto)]
 
 mod book;
-mod gather;
 mod gathered;
 mod read;
 

@@ -7,10 +7,11 @@ ghost use Rattle.wishbook.specs.Book.{SameWishes};
 ghost use Rattle.wishbook.specs.Contents.{Reads, contents};
 
 use crate::book::WishBook;
-use crate::gather::gather;
+use crate::gathered::Gathered;
 use formula::{Item, Node};
 use refusal::Fault;
 use wishlayout::Wish;
+use words::read;
 
 // The wish book in a file's bytes, or the first refusal and the place of its word.
 pub fn read_wish(bytes: &[u8]) -> Result<WishBook, Fault>
@@ -18,16 +19,7 @@ pub fn read_wish(bytes: &[u8]) -> Result<WishBook, Fault>
     ensures faithful { Faithful wish_format (λ b. valid b ≡ true) wish_words }
     ensures means { SameWishes }
 {
-    match gather(bytes) {
-        Ok(found) => match found.0.book() {
-            Ok(book) => Ok(book),
-            Err(refusal) => Err(Fault {
-                refusal,
-                place: found.1,
-            }),
-        },
-        Err(fault) => Err(fault),
-    }
+    read::<Gathered>(bytes)
 }
 
 impl WishBook {
@@ -35,20 +27,20 @@ impl WishBook {
     pub fn nodes(&self) -> &[Node]
         ensures { result.now ≡ (contents self.now).nodes }
     {
-        &self.nodes[0..self.count]
+        self.nodes.as_slice()
     }
 
     // The wishes in order, each by the number of its node.
     pub fn wishes(&self) -> &[Wish]
         ensures { result.now ≡ (contents self.now).wishes }
     {
-        &self.wishes[0..self.wished]
+        self.wishes.as_slice()
     }
 
     // The memory items in order.
     pub fn items(&self) -> &[Item]
         ensures { result.now ≡ (contents self.now).items }
     {
-        &self.items[0..self.kept]
+        self.items.as_slice()
     }
 }

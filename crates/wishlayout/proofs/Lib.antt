@@ -1,2 +1,3 @@
 pub mod OneWords
 pub mod Way
+pub mod NodeKinds

@@ -1,3 +1,4 @@
 pub mod Wishes
 pub mod OneWord
+pub mod Kinds
 pub mod Layout

@@ -43,6 +43,10 @@ two_in count w =
     (require (nat_lt (field w 0 8) count && nat_lt (field w 8 8) count) OutOfRange
     (Ok (field w 0 8, field w 8 8)))
 
+-- the operand in the eight bits from the bit low on
+abbrev pub operand_in : ℕ → ℕ → ℕ → Result ℕ Refusal
+operand_in low count w = require (nat_lt (field w low 8) count) OutOfRange (Ok (field w low 8))
+
 -- no field
 abbrev pub true_in : ℕ → Result Node Refusal
 true_in w = require (field w 0 28 == 0) UnusedBit (Ok True)

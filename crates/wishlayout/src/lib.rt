@@ -3,124 +3,117 @@
 #![tactic(auto)]
 
 ghost use Rattle.std.specs.Prelude.{◌≡◌};
-ghost use Rattle.wishlayout.specs.OneWord.{label_in, one_in, two_in, unary_of, binary_of, node_of, wish_of};
+ghost use Rattle.wishlayout.specs.Kinds.{Decodes, number_of, width_of};
+ghost use Rattle.wishlayout.specs.OneWord.{operand_in, node_of, wish_of};
 
 use formula::Node;
 use refusal::Refusal;
-use words::field;
+use words::{field, open};
+
+// The kinds of a wish word and of an end word. Node words have the kinds of `NodeKind`.
+pub const WISH: u32 = 10;
+
+pub const END: u32 = 15;
+
+// The kinds of node words, by their numbers.
+#[derive(Clone, Copy)]
+enum NodeKind {
+    Label = 1,
+    Not = 2,
+    And = 3,
+    Or = 4,
+    Previous = 5,
+    Since = 6,
+    Always = 7,
+    Once = 8,
+    True = 9,
+}
 
 // A wish: the number of a node, and its amount plus 255.
-#[derive(Clone, Copy)]
+#[derive(Clone, Copy, Debug, PartialEq, Eq, Default)]
 pub struct Wish {
     pub node: u8,
     pub raised: u16,
 }
 
-fn label(word: u32) -> Result<u8, Refusal>
-    ensures { result ≡ label_in word }
-{
-    if field(word, 5, 23) != 0 {
-        return Err(Refusal::UnusedBit);
+impl TryFrom<u32> for NodeKind {
+    type Error = Refusal;
+
+    ghost try_from_gives = { Decodes };
+
+    fn try_from(number: u32) -> Result<NodeKind, Refusal> {
+        match number {
+            1 => Ok(NodeKind::Label),
+            2 => Ok(NodeKind::Not),
+            3 => Ok(NodeKind::And),
+            4 => Ok(NodeKind::Or),
+            5 => Ok(NodeKind::Previous),
+            6 => Ok(NodeKind::Since),
+            7 => Ok(NodeKind::Always),
+            8 => Ok(NodeKind::Once),
+            9 => Ok(NodeKind::True),
+            _ => Err(Refusal::WrongKind),
+        }
     }
-    Ok(field(word, 0, 5) as u8)
 }
 
-// The operand of a word that has one.
-fn one_operand(word: u32, count: u32) -> Result<u8, Refusal>
-    ensures { result ≡ one_in count word }
-{
-    if field(word, 8, 20) != 0 {
-        return Err(Refusal::UnusedBit);
+impl NodeKind {
+    fn number(self) -> u32
+        ensures { result ≡ number_of self }
+    {
+        self as u32
     }
-    let a = field(word, 0, 8);
+
+    // How many of its lowest bits a word of this kind uses.
+    fn width(self) -> u32
+        ensures { result ≡ width_of self }
+    {
+        match self {
+            NodeKind::True => 0,
+            NodeKind::Label => 5,
+            NodeKind::Not | NodeKind::Previous | NodeKind::Always | NodeKind::Once => 8,
+            NodeKind::And | NodeKind::Or | NodeKind::Since => 16,
+        }
+    }
+}
+
+// The operand in the eight bits from bit `low` on: the number of an earlier node word.
+fn operand(word: u32, low: u32, count: u32) -> Result<u8, Refusal>
+    ensures { result ≡ operand_in low count word }
+{
+    let a = field(word, low, 8);
     if a >= count {
         return Err(Refusal::OutOfRange);
     }
     Ok(a as u8)
 }
 
-// The operands of a word that has two.
-fn two_operands(word: u32, count: u32) -> Result<(u8, u8), Refusal>
-    ensures { result ≡ two_in count word }
-{
-    if field(word, 16, 12) != 0 {
-        return Err(Refusal::UnusedBit);
-    }
-    let a = field(word, 0, 8);
-    let b = field(word, 8, 8);
-    if a >= count || b >= count {
-        return Err(Refusal::OutOfRange);
-    }
-    Ok((a as u8, b as u8))
-}
-
-fn unary(kind: u32, a: u8) -> Result<Node, Refusal>
-    ensures { result ≡ unary_of kind a }
-{
-    match kind {
-        2 => Ok(Node::Not(a)),
-        5 => Ok(Node::Previous(a)),
-        7 => Ok(Node::Always(a)),
-        8 => Ok(Node::Once(a)),
-        _ => Err(Refusal::WrongKind),
-    }
-}
-
-fn binary(kind: u32, a: u8, b: u8) -> Result<Node, Refusal>
-    ensures { result ≡ binary_of kind a b }
-{
-    match kind {
-        3 => Ok(Node::And(a, b)),
-        4 => Ok(Node::Or(a, b)),
-        6 => Ok(Node::Since(a, b)),
-        _ => Err(Refusal::WrongKind),
-    }
-}
-
 // A node word after `count` others.
 pub fn read_node(word: u32, count: u32) -> Result<Node, Refusal>
     ensures { result ≡ node_of count word }
 {
-    match word >> 28 {
-        1 => match label(word) {
-            Ok(p) => Ok(Node::Label(p)),
-            Err(r) => Err(r),
-        },
-        2 | 5 | 7 | 8 => match one_operand(word, count) {
-            Ok(a) => unary(word >> 28, a),
-            Err(r) => Err(r),
-        },
-        3 | 4 | 6 => match two_operands(word, count) {
-            Ok((a, b)) => binary(word >> 28, a, b),
-            Err(r) => Err(r),
-        },
-        9 => {
-            if field(word, 0, 28) == 0 {
-                Ok(Node::True)
-            } else {
-                Err(Refusal::UnusedBit)
-            }
-        }
-        _ => Err(Refusal::WrongKind),
-    }
+    let kind = NodeKind::try_from(word >> 28)?;
+    open(word, kind.number(), kind.width())?;
+    Ok(match kind {
+        NodeKind::Label => Node::Label(field(word, 0, 5) as u8),
+        NodeKind::True => Node::True,
+        NodeKind::Not => Node::Not(operand(word, 0, count)?),
+        NodeKind::And => Node::And(operand(word, 0, count)?, operand(word, 8, count)?),
+        NodeKind::Or => Node::Or(operand(word, 0, count)?, operand(word, 8, count)?),
+        NodeKind::Previous => Node::Previous(operand(word, 0, count)?),
+        NodeKind::Since => Node::Since(operand(word, 0, count)?, operand(word, 8, count)?),
+        NodeKind::Always => Node::Always(operand(word, 0, count)?),
+        NodeKind::Once => Node::Once(operand(word, 0, count)?),
+    })
 }
 
 // A wish word after `count` node words.
 pub fn read_wish_word(word: u32, count: u32) -> Result<Wish, Refusal>
     ensures { result ≡ wish_of count word }
 {
-    if word >> 28 != 10 {
-        return Err(Refusal::WrongKind);
-    }
-    if field(word, 17, 11) != 0 {
-        return Err(Refusal::UnusedBit);
-    }
-    let node = field(word, 0, 8);
-    if node >= count {
-        return Err(Refusal::OutOfRange);
-    }
+    open(word, WISH, 17)?;
     Ok(Wish {
-        node: node as u8,
+        node: operand(word, 0, count)?,
         raised: field(word, 8, 9) as u16,
     })
 }

@@ -5,10 +5,12 @@
 ghost use Rattle.std.specs.Prelude.{◌≡◌, ◌^◌, pos};
 ghost use Rattle.worth.specs.Unheld.{NothingHeldBack};
 
+use weighing::MOST;
+
 // The largest size that a worth can have: under mean and under worst no worth is ever held back.
 pub fn largest_worth() -> i64
     ensures value { result ≡ pos (2 ^ 59) }
     ensures free { NothingHeldBack }
 {
-    1 << 59
+    MOST
 }

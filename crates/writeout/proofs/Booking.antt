@@ -1,9 +1,11 @@
 -- The whole book in its table, and both tables after writing out.
-use Rattle.std.proofs.Common.{◌≡◌, ℕ, ◌-◌, ◌*◌, ◌<◌, ◌≤◌, min, Bool, true, false, cond, ltb, List, [], ◌∷◌, ◌++◌, map, length, drop, replicate, is_err, Some, None, Ok, Err, Option, Result, sym, ap, ◌∙◌, subst, ⊎_elim, arith}
+use Rattle.std.proofs.Common.{◌≡◌, ℕ, ◌-◌, ◌*◌, ◌<◌, ◌≤◌, min, true, false, cond, ltb, List, [], ◌∷◌, ◌++◌, map, length, drop, replicate, is_err, Some, None, Ok, Err, Option, Result, sym, ap, ◌∙◌, subst, ⊎_elim, arith}
 use Rattle.std.proofs.lemmas.List.{length-map, length_push, take-append-drop, drop-replicate}
 use Rattle.std.proofs.lemmas.Bool.{cases_Bool, cond-true, cond-false, lt-ltb, le-ltb, ltb-true, ltb-false}
-use Rattle.codes.specs.declared.Codes.{Codes}
-use Rattle.codes.specs.Listed.{listed}
+use Rattle.std.specs.declared.cmp.PartialEq as equality
+use Rattle.register.specs.declared.Key as key
+use Rattle.register.specs.declared.Register.{Register}
+use Rattle.register.specs.Listed.{listed}
 use Rattle.model.specs.Models.{Model, Lawful}
 use Rattle.pen.specs.declared.Pen.{Pen}
 use Rattle.pen.specs.Bytes.{padded, LaidIn}
@@ -71,16 +73,16 @@ counted_over space ws e =
     absurd (omega arith))
     (cases_Bool (ltb space (4 * length ws)))
 
-laid_bytes : (ws : List ℕ) (full : Bool) (n : ℕ) (bs : List ℕ) (k : ℕ) → LaidIn ws full n bs → Some k ≡ counted (length bs) ws → bs ≡ padded (length bs) (bytes_of ws)
-laid_bytes ws false n bs k h e = h.1.1
-laid_bytes ws true n bs k h e = absurd (omega (arith, h, (counted_some (length bs) ws k (sym e)).1))
+laid_bytes : (ws : List ℕ) (n : Option ℕ) (bs : List ℕ) (k : ℕ) → LaidIn ws n bs → Some k ≡ counted (length bs) ws → bs ≡ padded (length bs) (bytes_of ws)
+laid_bytes ws (Some n) bs k h e = h.1.1
+laid_bytes ws None bs k h e = absurd (omega (arith, h, (counted_some (length bs) ws k (sym e)).1))
 
 -- what a count says of the table
 pub written_book : (b : Site) (p : Pen) (space : ℕ) → Laid (site_words b ++ (end_word (length (site_words b)) ∷ [])) p → length p.bytes.now ≡ space → (r : Option ℕ) → r ≡ words_in space b → (x : List ℕ) → x ≡ p.bytes.now → WrittenIn r x b
 written_book b p space laid size None e x x-is = tt
 written_book b p space laid size (Some k) e x x-is =
     subst (λ l. l ≡ padded (length l) (file (site_words b))) (sym x-is)
-    (laid_bytes (site_words b ++ (end_word (length (site_words b)) ∷ [])) p.full p.words p.bytes.now k laid (e ∙ ap (λ n. words_in n b) (sym size)))
+    (laid_bytes (site_words b ++ (end_word (length (site_words b)) ∷ [])) p.words p.bytes.now k laid (e ∙ ap (λ n. words_in n b) (sym size)))
 
 -- with no count the table may hold anything
 pub written_none : (r : Option ℕ) → r ≡ None → (x : List ℕ) (b : Site) → WrittenIn r x b
@@ -88,12 +90,12 @@ written_none None e x b = tt
 written_none (Some k) e x b = let z : ◌≡◌ {A = ℕ} 0 1 = cc in absurd (omega arith)
 
 -- the code table after the search
-pub codes_left : (c : Codes) (cs before x : List ℕ) → listed c ≡ cs → drop c.len c.table.now ≡ drop c.len before → before ≡ replicate (length before) 0 → length c.table.now ≡ length before → x ≡ c.table.now → x ≡ padded (length x) cs
-codes_left c cs before x e rest zeros room x-is =
-    let size : length before - c.len ≡ length x - length cs = omega (arith, ap length e, listed-length c, ap length x-is) in
+pub codes_left : {k : key.Ghosts ℕ} {e : equality.Ghosts ℕ} (c : Register ℕ k e) (cs before x : List ℕ) → listed c ≡ cs → drop c.len c.keys.now ≡ drop c.len before → before ≡ replicate (length before) 0 → length c.keys.now ≡ length before → x ≡ c.keys.now → x ≡ padded (length x) cs
+codes_left c cs before x is rest zeros room x-is =
+    let size : length before - c.len ≡ length x - length cs = omega (arith, ap length is, listed-length c, ap length x-is) in
     x-is
-    ∙ sym (take-append-drop c.len c.table.now)
-    ∙ ap (λ l. l ++ drop c.len c.table.now) e
+    ∙ sym (take-append-drop c.len c.keys.now)
+    ∙ ap (λ l. l ++ drop c.len c.keys.now) is
     ∙ ap (λ l. cs ++ l) (rest ∙ ap (drop c.len) zeros ∙ drop-replicate c.len (length before) 0 ∙ ap (λ n. replicate n 0) size)
 
 pub more_words_than_many : (m : Model) (places space : ℕ) → min places 4096 < length (codes_of m) → Err TooManyStates ≡ outcome m places space

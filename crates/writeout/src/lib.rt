@@ -3,13 +3,14 @@
 #![tactic(auto)]
 
 mod cellwords;
+mod listing;
 mod markwords;
 mod out;
 
 pub use out::write_out;
 
 // The numbers of states and of words of a book that was written out.
-#[derive(Clone, Copy)]
+#[derive(Clone, Copy, Debug, PartialEq, Eq)]
 pub struct Written {
     pub states: usize,
     pub words: usize,

@@ -1,12 +1,13 @@
 -- The targets so far are entered, in the same table.
-use Rattle.std.proofs.Common.{◌≡◌, eqb, take}
-use Rattle.codes.specs.Listed.{listed}
+use Rattle.std.proofs.Common.{◌≡◌, ◌≤◌, eqb, take}
 use Rattle.model.specs.Histories.{targets_of}
 use Rattle.register.specs.Keys.{enter_all}
+use Rattle.register.specs.Listed.{listed}
 use Rattle.reach.specs.Adding.{Onto}
 use Rattle.reach.proofs.add_outcomes.Given as goal
 
 abbrev pub invariant-loop-way : goal.invariant-loop-way
 invariant-loop-way l =
     (listed l.codes ≡ enter_all eqb (listed l.initial.codes) (targets_of (take l.way-index l.way-items)))
+    × (l.initial.codes.len ≤ 4096 → l.codes.len ≤ 4096)
     × Onto l.initial.codes l.codes

@@ -1,6 +1,6 @@
 -- The codes are those listed after so many turns, none of which went past the codes.
 use Rattle.std.proofs.Common.{◌≡◌, ◌-◌, ◌≤◌, length}
-use Rattle.codes.specs.Listed.{listed}
+use Rattle.register.specs.Listed.{listed}
 use Rattle.reach.specs.Adding.{Onto}
 use Rattle.reach.specs.Search.{listed_after}
 use Rattle.reach.proofs.search.Given as goal
@@ -9,6 +9,7 @@ abbrev pub invariant-loop-state : goal.invariant-loop-state
 invariant-loop-state g l =
     (listed l.codes ≡ listed_after (g.M.SiteModel.meaning l.m) l.place)
     × (l.place ≤ length (listed l.codes))
+    × (l.codes.len ≤ 4096)
     × Onto l.initial.codes l.codes
 
 abbrev pub decreases-loop-state : goal.decreases-loop-state

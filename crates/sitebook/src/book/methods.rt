@@ -1,6 +1,6 @@
 // What can be asked of a site book.
-ghost use Rattle.std.specs.Prelude.{◌≡◌, ◌-◌, ◌≤◌, map, length, take, drop};
-ghost use Rattle.model.specs.Ways.{listed};
+ghost use Rattle.std.specs.Prelude.{◌≡◌, map, take};
+ghost use Rattle.bounded.specs.Listed.{listed};
 ghost use Rattle.sitebook.specs.Contents.{contents};
 ghost use Rattle.sitebook.specs.Models.{mark_at, cell_at, outcome_of, origin_of, site_model};
 ghost use Rattle.sitebook.specs.Lawful.{site_lawful, site_ground, site_numbered};
@@ -8,6 +8,13 @@ ghost use Rattle.sitebook.specs.Lawful.{site_lawful, site_ground, site_numbered}
 use crate::book::SiteBook;
 use model::{GroundModel, Numbered, Outcome, Outcomes, SiteModel, Sizes};
 use sitelayout::{Mark, Move};
+
+// No label, no reward, origin 0.
+const BLANK: Mark = Mark {
+    mask: 0,
+    raised: 2000,
+    origin: 0,
+};
 
 impl SiteBook {
     // The origin that a state carries, 0 for any other number.
@@ -21,15 +28,7 @@ impl SiteBook {
     fn mark(&self, s: u64) -> Mark
         ensures { result ≡ mark_at (contents self.now) s }
     {
-        if s < self.marks.len() as u64 {
-            self.marks[s as usize]
-        } else {
-            Mark {
-                mask: 0,
-                raised: 2000,
-                origin: 0,
-            }
-        }
+        self.marks.get(s as usize).copied().unwrap_or(BLANK)
     }
 
     // The outcomes of an action in a state, none where it is not offered.
@@ -40,28 +39,23 @@ impl SiteBook {
             return &[];
         }
         let k = s as usize * self.actions as usize + a as usize;
-        part(self.moves.as_slice(), self.starts[k], self.starts[k + 1])
+        &self.moves[self.starts[k]..self.starts[k + 1]]
     }
 }
 
-fn part(moves: &[Move], from: u32, to: u32) -> &[Move]
-    requires { (from ≤ to) × (to ≤ length moves.now) }
-    ensures { result.now ≡ take (to - from) (drop from moves.now) }
-{
-    &moves[from as usize..to as usize]
-}
-
-// Eight outcomes at most, by value.
+// The first eight outcomes, by value.
 fn gathered(moves: &[Move]) -> Outcomes
-    requires { length moves.now ≤ 8 }
-    ensures { listed result ≡ map outcome_of moves.now }
+    ensures { listed result ≡ take 8 (map outcome_of moves.now) }
 {
-    let mut all = Outcomes::none();
+    let mut all = Outcomes::new();
     for way in moves {
-        all.push(Outcome {
+        let outcome = Outcome {
             target: way.target as u64,
             weight: way.weight,
-        });
+        };
+        if all.push(outcome).is_err() {
+            return all;
+        }
     }
     all
 }
@@ -88,7 +82,7 @@ impl SiteModel for SiteBook {
     }
 
     fn ground(&self, s: u64) -> u64 {
-        if s < self.marks.len() as u64 { s } else { 0 }
+        if self.is_state(s) { s } else { 0 }
     }
 
     fn offers(&self, s: u64, a: u32) -> bool {

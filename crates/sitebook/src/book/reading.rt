@@ -9,25 +9,21 @@ ghost use Rattle.sitebook.specs.Reading.{Refused};
 ghost use Rattle.sitebook.specs.Storing.{held, book_of, Closable};
 
 use crate::book::SiteBook;
-use crate::store::{Store, fill};
-use refusal::{Fault, Refusal};
+use crate::store::Store;
+use refusal::Fault;
+use sitelayout::Kind;
 use siteverdict::{Counts, verdict};
 use std::alloc::{AllocError, Global};
 use words::next_word;
 
 // The book that a file is, or the first refusal and its place; Memory only where the file is a book.
+#[tactic(auto, using(sitelayout::proofs::Way::site_faithful))]
 pub fn read_site(heap: Global, bytes: &[u8]) -> Result<SiteBook, Fault>
     ensures reads { MatchResult result (λ b. reading site_format bytes.now ≡ got (contents b)) (λ f. Refused (reading site_format bytes.now) f) }
     ensures faithful { Faithful site_format (λ b. valid b ≡ true) site_words }
 {
     let counts = verdict(bytes)?;
-    match stored(heap, bytes, counts) {
-        Ok(book) => Ok(book),
-        Err(_) => Err(Fault {
-            refusal: Refusal::Memory,
-            place: 0,
-        }),
-    }
+    Ok(stored(heap, bytes, counts)?)
 }
 
 // The tables of a file that is known to be a book: no word of it is tested.
@@ -41,10 +37,10 @@ fn stored(heap: Global, bytes: &[u8], counts: Counts) -> Result<SiteBook, AllocE
         let Some((word, next)) = next_word(rest) else {
             unreachable();
         };
-        if word >> 28 == 15 {
-            return closed(tables, counts);
+        match Kind::try_from(word) {
+            Ok(Kind::End) => return closed(tables, counts),
+            _ => tables.put(word)?,
         }
-        tables.put(word)?;
         rest = next;
     }
 }
@@ -55,8 +51,7 @@ fn closed(mut tables: Store, counts: Counts) -> Result<SiteBook, AllocError>
     ensures { IfOk result (λ k. contents k ≡ book_of (held tables)) }
 {
     let cells = tables.marks.len() * tables.actions as usize;
-    let end = tables.moves.len() as u32;
-    fill(&mut tables.starts, cells + 1, end)?;
+    tables.begin(cells + 1)?;
     let Store {
         labels,
         actions,

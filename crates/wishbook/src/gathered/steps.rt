@@ -1,83 +1,96 @@
-ghost use Rattle.std.specs.Prelude.{◌≡◌, true, [], take, Ok, ◌≢◌};
-ghost use Rattle.wishlayout.specs.Layout.{noding};
+// Gathering follows the draft of the wish book's format.
+ghost use Rattle.bounded.specs.Listed.{listed};
+ghost use Rattle.std.specs.Prelude.{◌≡◌, ◌≤◌};
+ghost use Rattle.wishbook.specs.Book.{book_of};
+ghost use Rattle.wishbook.specs.Contents.{contents};
 ghost use Rattle.wishbook.specs.Gathering.{draft_of};
-ghost use Rattle.wishbook.specs.Steps.{NodeAdded, WishAdded, Stepped};
+ghost use Rattle.wishbook.specs.Steps.{NodeAdded, WishAdded};
+ghost use Rattle.wishlayout.specs.Layout.{Draft as Drafted, wish_format};
+ghost use Rattle.wishlayout.specs.Wishes.{Wishes};
 
 use super::Gathered;
+use super::make::{merged, remember, rename_all};
+use crate::book::WishBook;
+use bounded::Bounded;
 use formula::Node;
 use refusal::Refusal;
-use wishlayout::{Wish, read_node, read_wish_word};
+use wishlayout::{END, WISH, Wish, read_node, read_wish_word};
+use words::{Draft, Turn};
 
-impl Gathered {
-    pub fn nothing() -> Gathered
-        ensures { draft_of result ≡ noding [] }
-    {
+// One node word more.
+fn add_node(nodes: &mut Bounded<Node, 128>, word: u32) -> Result<Turn, Refusal>
+    ensures { NodeAdded (listed nodes.old) word (listed nodes.new) result }
+{
+    if nodes.len() >= 128 {
+        return Err(Refusal::WrongKind);
+    }
+    let node = read_node(word, nodes.len() as u32)?;
+    let _ = nodes.push(node);
+    Ok(Turn::More)
+}
+
+// One wish more, after `count` node words.
+fn add_wish(wishes: &mut Bounded<Wish, 16>, count: usize, word: u32) -> Result<Turn, Refusal>
+    requires { count ≤ 128 }
+    ensures { WishAdded count (listed wishes.old) word (listed wishes.new) result }
+{
+    if wishes.len() >= 16 {
+        return Err(Refusal::WrongKind);
+    }
+    let wish = read_wish_word(word, count as u32)?;
+    let _ = wishes.push(wish);
+    Ok(Turn::More)
+}
+
+impl Draft for Gathered {
+    type Book = WishBook;
+
+    ghost Words = { Drafted };
+
+    ghost Text = { Wishes };
+
+    ghost format = { wish_format };
+
+    ghost Follows = { λ gathered draft. draft_of gathered ≡ draft };
+
+    ghost Means = { λ book text. contents book ≡ book_of text };
+
+    fn blank() -> Gathered {
         Gathered {
-            nodes: [Node::True; 128],
-            count: 0,
-            wishes: [Wish { node: 0, raised: 0 }; 16],
-            wished: 0,
+            nodes: Bounded::new(),
+            wishes: Bounded::new(),
         }
     }
 
-    // One node word more.
-    fn add_node(&mut self, word: u32) -> Result<bool, Refusal>
-        ensures answer { NodeAdded (take self.old.count self.old.nodes) word (take self.new.count self.new.nodes) result }
-        ensures wishes { self.new.wishes ≡ self.old.wishes }
-        ensures wished { self.new.wished ≡ self.old.wished }
-    {
-        let at = self.count;
-        if at >= 128 {
-            return Err(Refusal::WrongKind);
-        }
-        match read_node(word, at as u32) {
-            Ok(node) => {
-                self.nodes[at] = node;
-                self.count = at + 1;
-                Ok(false)
-            }
-            Err(refusal) => Err(refusal),
-        }
-    }
-
-    // One wish more.
-    fn add_wish(&mut self, word: u32) -> Result<bool, Refusal>
-        ensures answer { WishAdded (take self.old.count self.old.nodes) (take self.old.wished self.old.wishes) word (take self.new.wished self.new.wishes) result }
-        ensures nodes { self.new.nodes ≡ self.old.nodes }
-        ensures count { self.new.count ≡ self.old.count }
-    {
-        let at = self.wished;
-        if at >= 16 {
-            return Err(Refusal::WrongKind);
-        }
-        match read_wish_word(word, self.count as u32) {
-            Ok(wish) => {
-                self.wishes[at] = wish;
-                self.wished = at + 1;
-                Ok(false)
-            }
-            Err(refusal) => Err(refusal),
-        }
-    }
-
-    // One word more: true at the end word.
-    pub fn step(&mut self, word: u32) -> Result<bool, Refusal>
-        ensures answer { Stepped (draft_of self.old) word (draft_of self.new) result }
-        ensures ended { result ≡ Ok true → self.new.wished ≢ 0 }
-    {
+    fn step(&mut self, word: u32) -> Result<Turn, Refusal> {
         let kind = word >> 28;
-        if self.wished == 0 {
-            if kind != 10 {
-                return self.add_node(word);
+        let before = &*self;
+        let (count, wished) = (before.nodes.len(), before.wishes.len());
+        if wished == 0 {
+            if kind != WISH {
+                return add_node(&mut self.nodes, word);
             }
-            if self.count == 0 {
+            if count == 0 {
                 return Err(Refusal::WrongKind);
             }
-            return self.add_wish(word);
+        } else if kind == END {
+            return Ok(Turn::End);
         }
-        if kind == 15 {
-            return Ok(true);
+        add_wish(&mut self.wishes, count, word)
+    }
+
+    // Equal nodes are merged, and the items that are kept are found. Not every end word comes after a wish.
+    fn finish(self) -> Result<WishBook, Refusal> {
+        if self.wishes.is_empty() {
+            return Err(Refusal::WrongKind);
         }
-        self.add_wish(word)
+        let (nodes, numbers) = merged(&self.nodes);
+        let wishes = rename_all(&self.wishes, &numbers);
+        let items = remember(&nodes, &wishes).ok_or(Refusal::TooManyItems)?;
+        Ok(WishBook {
+            nodes,
+            wishes,
+            items,
+        })
     }
 }

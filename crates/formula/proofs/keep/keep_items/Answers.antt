@@ -1,60 +1,48 @@
-use Rattle.std.proofs.Common.{refl, subst, inl, arith}
+use Rattle.std.proofs.Common.{subst, arith}
 use Rattle.formula.specs.Items.{items_below}
-use Rattle.formula.proofs.Chosen.{selected}
-use Rattle.formula.proofs.Puts.{Filled, put_more, next, refused_held, refused_failed, kept_all}
+use Rattle.formula.proofs.Puts.{Filled, put_more, next, refused_held, refused_failed}
 use Rattle.formula.proofs.keep.keep_items.Goals as goal
 
-pub returns-then-nodes-gt128 : goal.returns-then-nodes-gt128
-returns-then-nodes-gt128 c = record { answer = inl (c.if-nodes-gt128.true, refl); selected = selected c.args.nodes.now c.args.marks.now }
-
-pub returns-in_err-len : goal.returns-in_err-len
-returns-in_err-len c =
+pub returns-in_err-len-clause-answer : goal.returns-in_err-len-clause-answer
+returns-in_err-len-clause-answer c =
     let back = c.looked_back-back.ensures c.loop-i.i (omega arith) in
-    record {
-      answer =
-          refused_held c.args.nodes.now c.args.marks.now c.loop-i.i _ c.loop-i-test.true c.marked-used.result _ c.keeps_held-held.result c.keeps_failed-failed.result
-          c.marked-used.ensures
-          back
-          c.keeps_held-held.ensures
-          c.keeps_failed-failed.ensures
-          c.args.items.now
-          c.loop-i.items
-          c.put.new.items
-          c.loop-i.len
-          c.from_residual.result
-          c.if-nodes-gt128.false
-          c.loop-i.invariant
-          c.in_err-len.ensures
-          c.from_residual.ensures;
-      selected = selected c.args.nodes.now c.args.marks.now;
-    }
+    refused_held c.args.nodes.now c.args.marks.now c.loop-i.i _ c.loop-i-test.true c.is_marked-used.result _ c.keeps_held-held.result c.keeps_failed-failed.result
+    c.is_marked-used.ensures
+    back
+    c.keeps_held-held.ensures
+    c.keeps_failed-failed.ensures
+    c.args.items.now
+    c.loop-i.items
+    c.put.new.items
+    c.loop-i.len
+    c.from_residual.result
+    c.if-nodes-gt128.false
+    c.loop-i.invariant
+    c.in_err-len.ensures
+    c.from_residual.ensures
 
-pub returns-in_err-len-2 : goal.returns-in_err-len-2
-returns-in_err-len-2 c =
+pub returns-in_err-len-2-clause-answer : goal.returns-in_err-len-2-clause-answer
+returns-in_err-len-2-clause-answer c =
     let back = c.looked_back-back.ensures c.loop-i.i (omega arith) in
     let first =
     put_more c.args.items.now c.loop-i.items c.put.new.items (items_below c.args.nodes.now c.args.marks.now c.loop-i.i) _ c.loop-i.len c.in_ok-len.len
     c.loop-i.invariant
     c.in_ok-len.ensures
     c.put.auto.items in
-    record {
-      answer =
-          refused_failed c.args.nodes.now c.args.marks.now c.loop-i.i _ c.loop-i-test.true c.marked-used.result _ c.keeps_held-held.result c.keeps_failed-failed.result
-          c.marked-used.ensures
-          back
-          c.keeps_held-held.ensures
-          c.keeps_failed-failed.ensures
-          c.args.items.now
-          c.put.new.items
-          c.put-in-loop-i.new.items
-          c.in_ok-len.len
-          c.from_residual-in_err-len-2.result
-          c.if-nodes-gt128.false
-          first
-          c.in_err-len-2.ensures
-          c.from_residual-in_err-len-2.ensures;
-      selected = selected c.args.nodes.now c.args.marks.now;
-    }
+    refused_failed c.args.nodes.now c.args.marks.now c.loop-i.i _ c.loop-i-test.true c.is_marked-used.result _ c.keeps_held-held.result c.keeps_failed-failed.result
+    c.is_marked-used.ensures
+    back
+    c.keeps_held-held.ensures
+    c.keeps_failed-failed.ensures
+    c.args.items.now
+    c.put.new.items
+    c.put-in-loop-i.new.items
+    c.in_ok-len.len
+    c.from_residual-in_err-len-2.result
+    c.if-nodes-gt128.false
+    first
+    c.in_err-len-2.ensures
+    c.from_residual-in_err-len-2.ensures
 
 pub loop-i-preserved : goal.loop-i-preserved
 loop-i-preserved c =
@@ -70,16 +58,6 @@ loop-i-preserved c =
     c.put-in-loop-i.auto.items in
     let back = c.looked_back-back.ensures c.loop-i.i (omega arith) in
     subst (Filled c.args.items.now c.put-in-loop-i.new.items c.in_ok-len-2.len)
-    (next c.args.nodes.now c.args.marks.now c.loop-i.i _ c.loop-i-test.true c.marked-used.result _ c.keeps_held-held.result c.keeps_failed-failed.result
-    c.marked-used.ensures back c.keeps_held-held.ensures c.keeps_failed-failed.ensures)
+    (next c.args.nodes.now c.args.marks.now c.loop-i.i _ c.loop-i-test.true c.is_marked-used.result _ c.keeps_held-held.result c.keeps_failed-failed.result
+    c.is_marked-used.ensures back c.keeps_held-held.ensures c.keeps_failed-failed.ensures)
     second
-
-pub returns : goal.returns
-returns c = record {
-  answer =
-      kept_all c.args.nodes.now c.args.marks.now c.args.items.now c.loop-i.items c.loop-i.len c.loop-i.i
-      c.if-nodes-gt128.false
-      (omega arith)
-      c.loop-i.invariant;
-  selected = selected c.args.nodes.now c.args.marks.now;
-}

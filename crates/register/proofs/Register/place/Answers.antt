@@ -1,28 +1,16 @@
-use Rattle.std.proofs.Common.{sym}
-use Rattle.register.proofs.Table.{found, passed, nowhere}
+use Rattle.std.proofs.Common.{◌≡◌, length, min, rules, arith}
+use Rattle.register.specs.Listed.{listed}
+use Rattle.register.proofs.Search.{placed, both_parts}
 use Rattle.register.proofs.Register.place.Goals as goal
 
-pub returns-then-same : goal.returns-then-same
-returns-then-same g c =
-    found g.K.Key.equals c.args.key.now c.args.self.now.keys.now c.args.self.now.len c.loop-i.i c.index-keys-i.result
-    c.args.self.now.fits
-    c.loop-i-test.true
-    c.index-keys-i.is
-    c.loop-i.invariant
-    (sym c.if-same.ensures)
-
-pub loop-i-preserved : goal.loop-i-preserved
-loop-i-preserved g c =
-    passed g.K.Key.equals c.args.key.now c.args.self.now.keys.now c.args.self.now.len c.loop-i.i c.index-keys-i.result
-    c.args.self.now.fits
-    c.loop-i-test.true
-    c.index-keys-i.is
-    c.loop-i.invariant
-    (sym c.if-same.ensures)
+pub returns-in-Some : goal.returns-in-Some
+returns-in-Some g c =
+    let s = c.args.self.now in
+    let size : length (listed s) ≡ s.len = search rules in
+    placed g.K.PartialEq.eq g.met.K.Key.decides c.args.key.now (listed s) 0 (min s.len 4096) c.in-Some.place s.apart (omega (arith, size)) c.in-Some.ensures
 
 pub returns : goal.returns
 returns g c =
-    nowhere g.K.Key.equals c.args.key.now c.args.self.now.keys.now c.args.self.now.len c.loop-i.i
-    c.args.self.now.fits
-    c.loop-i-test.false
-    c.loop-i.invariant
+    let s = c.args.self.now in
+    let size : length (listed s) ≡ s.len = search rules in
+    both_parts g.K.PartialEq.eq g.met.K.Key.decides c.args.key.now (listed s) s.len size s.apart c.in_default.ensures c.later_place.result c.later_place.ensures

@@ -6,7 +6,7 @@ use Rattle.register.proofs.count.distinct.Goals as goal
 pub returns : goal.returns
 returns g c =
     let inv = c.loop-key.invariant in
-    counted g.K.Key.equals g.met.K.Key.decides c.args.keys.now c.new-register.result.keys.now c.args.table.now c.loop-key.register.keys.now c.loop-key.register.len c.loop-key.key-index _
+    counted g.K.PartialEq.eq g.met.K.Key.decides c.args.keys.now c.new-register.result.keys.now c.args.table.now c.loop-key.register.keys.now c.loop-key.register.len c.loop-key.key-index _
     c.loop-key.register.fits
     c.loop-key-test.false
     inv.0
@@ -20,7 +20,7 @@ pub returns-in_err-enter : goal.returns-in_err-enter
 returns-in_err-enter g c =
     let inv = c.loop-key.invariant in
     let told = c.in_err-enter.ensures in
-    refused g.K.Key.equals c.args.keys.now c.new-register.result.keys.now c.args.table.now (listed c.loop-key.register) c.loop-key.register.keys.now c.enter.new.self.keys.now c.enter.new.self.len c.loop-key.key-index c.key-item.result
+    refused g.K.PartialEq.eq c.args.keys.now c.new-register.result.keys.now c.args.table.now (listed c.loop-key.register) c.loop-key.register.keys.now c.enter.new.self.keys.now c.enter.new.self.len c.loop-key.key-index c.key-item.result
     c.loop-key-test.true
     c.key-item.is
     inv.0
@@ -39,7 +39,7 @@ loop-key-preserved g c =
     let inv = c.loop-key.invariant in
     let told = c.in_ok-enter.ensures in
     let step =
-    stepped g.K.Key.equals c.args.keys.now c.new-register.result.keys.now c.loop-key.register.keys.now c.enter.new.self.keys.now c.loop-key.register.len c.enter.new.self.len c.loop-key.key-index c.key-item.result
+    stepped g.K.PartialEq.eq c.args.keys.now c.new-register.result.keys.now c.loop-key.register.keys.now c.enter.new.self.keys.now c.loop-key.register.len c.enter.new.self.len c.loop-key.key-index c.key-item.result
     c.loop-key.register.fits
     c.enter.new.self.fits
     c.loop-key-test.true

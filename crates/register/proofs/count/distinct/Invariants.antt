@@ -6,7 +6,7 @@ use Rattle.register.proofs.count.distinct.Given as goal
 
 abbrev pub invariant-loop-key : goal.invariant-loop-key
 invariant-loop-key g l =
-    (listed l.register ≡ enter_all g.K.Key.equals [] (take l.key-index l.keys))
+    (listed l.register ≡ enter_all g.K.PartialEq.eq [] (take l.key-index l.keys))
     × (drop l.register.len l.register.keys.now ≡ drop l.register.len l.initial.register.keys.now)
     × (length l.register.keys.now ≡ length l.initial.register.keys.now)
     × (l.register.keys.ghost_name ≡ l.initial.register.keys.ghost_name)

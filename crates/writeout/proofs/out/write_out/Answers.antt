@@ -11,13 +11,13 @@ returns-then-is_err g c =
     let m = g.M.SiteModel.meaning c.args.m.now in
     let law = g.met.M.SiteModel.lawful c.args.m.now in
     let is = sym c.if-is_err.ensures.value in
-    let places : length c.wipe.new.table ≡ length c.args.codes.now = omega arith in
+    let places : length c.fill.new.self ≡ length c.args.codes.now = omega arith in
     let codes : length c.attempt-answer.new.codes ≡ length c.args.codes.now = omega arith in
     let bytes : length c.attempt-answer.new.bytes ≡ length c.args.bytes.now = omega arith in
     record {
       answer = c.attempt-answer.ensures.answer ∙ ap (λ n. outcome m n (length c.args.bytes.now)) places;
-      codes = left_refused c.attempt-answer.result is (length c.args.codes.now) (codes_of m) _ (c.wipe-then-is_err.ensures ∙ ap (λ n. replicate n 0) codes);
-      bytes = left_refused c.attempt-answer.result is (length c.args.bytes.now) (file (site_words (out_book m))) _ (c.wipe-then-is_err-2.ensures ∙ ap (λ n. replicate n 0) bytes);
+      codes = left_refused c.attempt-answer.result is (length c.args.codes.now) (codes_of m) _ (c.fill-then-is_err.ensures.after (λ y e. e) ∙ ap (λ n. replicate n 0) codes);
+      bytes = left_refused c.attempt-answer.result is (length c.args.bytes.now) (file (site_words (out_book m))) _ (c.fill-then-is_err-2.ensures.after (λ y e. e) ∙ ap (λ n. replicate n 0) bytes);
       faithful = faithfully m law;
     }
 
@@ -26,7 +26,7 @@ returns-else-is_err g c =
     let m = g.M.SiteModel.meaning c.args.m.now in
     let law = g.met.M.SiteModel.lawful c.args.m.now in
     let is = sym c.if-is_err.ensures.value in
-    let places : length c.wipe.new.table ≡ length c.args.codes.now = omega arith in
+    let places : length c.fill.new.self ≡ length c.args.codes.now = omega arith in
     record {
       answer = c.attempt-answer.ensures.answer ∙ ap (λ n. outcome m n (length c.args.bytes.now)) places;
       codes = left_codes m c.attempt-answer.result is c.attempt-answer.new.codes c.attempt-answer.new.bytes (length c.args.codes.now) (omega arith) c.attempt-answer.ensures.tables;

@@ -1,2 +1,0 @@
-pub mod Chains
-pub mod Listed

@@ -1,0 +1,44 @@
+// What is answered where a command is not carried out.
+use refusal::Fault;
+use std::alloc::{AllocError, AllocFailed};
+use std::fmt;
+
+#[derive(Debug, Drop)]
+pub enum Failure {
+    Unknown,
+    Unreadable,
+    Refused(Fault),
+    Memory(AllocError),
+}
+
+impl fmt::Display for Failure {
+    fn fmt<W: fmt::Write>(&self, f: &mut fmt::Formatter<W>) -> fmt::Result {
+        match self {
+            Failure::Unknown => f.write_str("unknown"),
+            Failure::Unreadable => f.write_str("unreadable"),
+            Failure::Refused(fault) => match fault.refusal.number() {
+                Some(number) => write!(f, "refused {number} {}", fault.place),
+                None => f.write_str("no memory"),
+            },
+            Failure::Memory(_) => f.write_str("no memory"),
+        }
+    }
+}
+
+impl From<Fault> for Failure {
+    fn from(fault: Fault) -> Failure {
+        Failure::Refused(fault)
+    }
+}
+
+impl From<AllocError> for Failure {
+    fn from(error: AllocError) -> Failure {
+        Failure::Memory(error)
+    }
+}
+
+impl<T: Drop> From<AllocFailed<T>> for Failure {
+    fn from(_failed: AllocFailed<T>) -> Failure {
+        Failure::Memory(AllocError)
+    }
+}
