@@ -1,5 +1,5 @@
 -- The bits of a memory and of a mask, one by one.
-use Rattle.std.proofs.Common.{◌≡◌, ℕ, zero, suc, ◌+◌, ◌*◌, ◌/◌, ◌%◌, ◌^◌, ◌<◌, Bool, true, false, eqb, List, [], ◌∷◌, map, length, get_or, sym, ap, ◌∙◌, subst, mul_comm, add_comm, arith, pow_pos}
+use Rattle.std.proofs.Common.{◌≡◌, ℕ, zero, suc, ◌+◌, ◌*◌, ◌/◌, ◌%◌, ◌^◌, ◌<◌, Bool, true, false, eqb, List, [], ◌∷◌, length, get_or, sym, ap, ◌∙◌, subst, mul_comm, add_comm, arith, pow_pos}
 use native.Mathlib.Nat.{div-eq_of_lt}
 use Rattle.std.specs.List.{ContainsAt as Has}
 use Rattle.std.proofs.lemmas.Nat.{shr-shr, shr_high}
@@ -50,7 +50,7 @@ pub memory_tells : MemoryTells
 memory_tells b ok τ zero k l = empty_bit k
 memory_tells b ok τ (suc n) k l =
     bits_bit (item_held (truths b.nodes τ n)) b.items k (Held 0) l
-    ∙ item_told b.nodes (map (λ w. w.node) b.wishes) (and_parts _ _ ok.names).0 τ n (get_or b.items k (Held 0)) (subst (λ is. Has is (get_or b.items k (Held 0))) ok.remembers (has_get_or b.items k (Held 0) l))
+    ∙ item_told b.nodes b.wishes (and_parts _ _ ok.names).0 τ n (get_or b.items k (Held 0)) (subst (λ is. Has is (get_or b.items k (Held 0))) ok.remembers (has_get_or b.items k (Held 0) l))
 
 above : (labels low_part high k : ℕ) → low_part < 2 ^ labels → labelled (low_part + 2 ^ labels * high) (labels + k) ≡ labelled high k
 above labels low_part high k small =

@@ -1,9 +1,9 @@
 -- One bit more, from the last x to the first; and one wish more, from the first to the last.
-use Rattle.std.proofs.Common.{◌≡◌, ℕ, ◌+◌, ◌*◌, ◌^◌, ◌<◌, ◌≤◌, Bool, true, false, cond, List, [], ◌∷◌, ◌++◌, length, get_or, drop, ℤ, pos, negsuc, ◌+ℤ◌, nat_abs, sym, refl, ap, ◌∙◌, subst, arith, w32, SFits, to_z, of_z}
+use Rattle.std.proofs.Common.{◌≡◌, ℕ, ◌+◌, ◌*◌, ◌^◌, ◌<◌, ◌≤◌, Bool, true, false, cond, List, [], ◌∷◌, ◌++◌, length, get_or, drop, ℤ, ◌+ℤ◌, nat_abs, sym, refl, ap, ◌∙◌, arith, w32, to_z, of_z}
 use Rattle.std.specs.List.{ContainsAt as Has}
 use Rattle.std.proofs.ByRecursion.{has_append_right}
 use Rattle.std.proofs.lemmas.List.{at_drop_more}
-use Rattle.std.proofs.lemmas.Int.{to_z-of_z}
+use Rattle.std.proofs.lemmas.Int.{fits_signed_from_abs, to_z-of_z}
 use Rattle.wishlayout.specs.declared.Wish.{Wish}
 use Rattle.layer.specs.Judging.{bit, bits_of, wish_held, amount, earned}
 use Rattle.layer.specs.Sizes.{abs_add}
@@ -32,17 +32,10 @@ bits_same f g [] h = refl
 bits_same f g (x ∷ xs) h = λ k. bit (h x (0, omega arith, λ d. refl) k) + 2 * bits_same f g xs (λ y has. h y (has_append_right (x ∷ []) xs y has)) k
 
 -- a sum of small numbers, in 32 bits
-pub small_fits : (z : ℤ) → nat_abs z < 2 ^ 31 → SFits w32 z
-small_fits (pos n) h = record { sfits = h }
-small_fits (negsuc n) h = record { sfits = omega arith }
-
-sum_fits : (t a : ℤ) → nat_abs t ≤ 2 ^ 30 → nat_abs a < 65536 → SFits w32 (t +ℤ to_z w32 (of_z w32 a))
-sum_fits t a p q = subst (λ z. SFits w32 (t +ℤ z)) (sym (to_z-of_z w32 a (small_fits a (omega arith)))) (small_fits (t +ℤ a) (omega (arith, abs_add t a)))
-
 sum_is : (t a : ℤ) → nat_abs t ≤ 2 ^ 30 → nat_abs a < 65536 → to_z w32 (of_z w32 (t +ℤ to_z w32 (of_z w32 a))) ≡ t +ℤ a
 sum_is t a p q =
-    ap (λ z. to_z w32 (of_z w32 (t +ℤ z))) (to_z-of_z w32 a (small_fits a (omega arith)))
-    ∙ to_z-of_z w32 (t +ℤ a) (small_fits (t +ℤ a) (omega (arith, abs_add t a)))
+    ap (λ z. to_z w32 (of_z w32 (t +ℤ z))) (to_z-of_z w32 a (fits_signed_from_abs w32 a (omega arith)))
+    ∙ to_z-of_z w32 (t +ℤ a) (fits_signed_from_abs w32 (t +ℤ a) (omega (arith, abs_add t a)))
 
 -- what is earned so far, with the wishes from place i on
 abbrev pub Earning : ℤ → ℤ → List Wish → List Bool → ℕ → Type 0

@@ -28,7 +28,7 @@ use Rattle.layer.proofs.Counting.{bits_same}
 use Rattle.layer.specs.Layering.{under, memory, is_layer_state, judged, lifted, layered}
 use Rattle.layer.specs.Records.{trace_of, end_of, truths, memory_at, code_over, mask_over, reward_over}
 use Rattle.layer.specs.Sizes.{bits_below}
-use Rattle.layer.proofs.Verdicts.{Right, verdicts_right, memory_at_state, recalls_at, memory_next, told_at}
+use Rattle.layer.proofs.Verdicts.{Right, verdicts_right, recalls_at, memory_next, told_at}
 
 some_history : (g : Model) (h : List ℕ) → History g h → 1 ≤ length h
 some_history g h begun = omega arith
@@ -86,10 +86,6 @@ module _ (g m : Model) (code mask : List ℕ → ℕ) (reward : List ℕ → ℤ
     abbrev mem : ℕ
     mem = memory_at book τ n
 
-    mem_is : (k : ℕ) → memory_at book τ k ≡ memory_at_state ns roots ok τ k
-    mem_is zero = refl
-    mem_is (suc k) = refl
-
     mem_items : (k : ℕ) → memory_at book τ k < 2 ^ length (items_over ns ws)
     mem_items zero = pow_pos (length (items_over ns ws))
     mem_items (suc k) = bits_below (item_held (truths ns τ k)) (items_over ns ws)
@@ -109,13 +105,13 @@ module _ (g m : Model) (code mask : List ℕ → ℕ) (reward : List ℕ → ℤ
     state_is : is_layer_state m book s ≡ true
     state_is = and_from (m.state (under s)) (ltb (memory s) (2 ^ length (items_over ns ws))) (ap m.state under_is ∙ u.states h hist) (ap (λ k. ltb k (2 ^ length (items_over ns ws))) memory_is ∙ lt-ltb mem (2 ^ length (items_over ns ws)) (mem_items n))
 
-    judged_is : judged m book s ≡ verdicts (τ n) (recalled (items_over ns ws) (memory_at_state ns roots ok τ n)) ns
+    judged_is : judged m book s ≡ verdicts (τ n) (recalled (items_over ns ws) mem) ns
     judged_is =
-        (λ i. verdicts (m.mask (under_is i)) (recalled (items_over ns ws) ((memory_is ∙ mem_is n) i)) ns)
-        ∙ ap (λ k. verdicts k (recalled (items_over ns ws) (memory_at_state ns roots ok τ n)) ns) (u.masks h hist ∙ sym (trace_end mask h some))
+        (λ i. verdicts (m.mask (under_is i)) (recalled (items_over ns ws) (memory_is i)) ns)
+        ∙ ap (λ k. verdicts k (recalled (items_over ns ws) mem) ns) (u.masks h hist ∙ sym (trace_end mask h some))
 
-    right : Right ns roots ok τ n (judged m book s)
-    right = subst (Right ns roots ok τ n) (sym judged_is) (verdicts_right ns roots ok τ n (recalled (items_over ns ws) (memory_at_state ns roots ok τ n)) (recalls_at ns roots ok τ n))
+    right : Right ns ws ok τ n (judged m book s)
+    right = subst (Right ns ws ok τ n) (sym judged_is) (verdicts_right ns ws ok τ n (recalled (items_over ns ws) mem) (recalls_at ns ws ok τ n))
 
     judged-length : length (judged m book s) ≡ length ns
     judged-length = verdicts-length (m.mask (under s)) (recalled (items_over ns ws) (memory s)) [] ns ∙ omega arith
@@ -124,12 +120,12 @@ module _ (g m : Model) (code mask : List ℕ → ℕ) (reward : List ℕ → ℤ
     wishes_right : (w : Wish) → Has ws w → wish_held (judged m book s) w ≡ wish_held (truths ns τ n) w
     wishes_right w has =
         let low = wish_below (length ns) ws w each has in
-        right w.node (omega (arith, judged-length)) ((exact ns roots ok).every w.node low (root (has_node ws w has))) ∙ sym (told_at ns roots ok τ n w.node low)
+        right w.node (omega (arith, judged-length)) ((exact ns roots ok).every w.node low (root (has_node ws w has))) ∙ sym (told_at ns ws ok τ n w.node low)
 
     next_memory : (t : ℕ) → memory_of (items_over ns ws) (judged m book s) ≡ memory_at book (trace_of mask (h ++ (t ∷ []))) (end_of (h ++ (t ∷ [])))
     next_memory t =
         let end : end_of (h ++ (t ∷ [])) ≡ suc n = omega (arith, length_push h t, some) in
-        memory_next ns roots ok τ n (judged m book s) judged-length right
+        memory_next ns ws ok τ n (judged m book s) judged-length right
         ∙ ap (memory_of (items_over ns ws)) (sym (truths_before ns mask h t some))
         ∙ ap (memory_at book (trace_of mask (h ++ (t ∷ [])))) (sym end)
 

@@ -1,6 +1,6 @@
 -- Bits meet truth: where the remembered bits tell the truth of one position earlier, the verdict on every node that a wish rests on is
 -- what the truth lines say at this position, and so the next memory tells the truth of this one.
-use Rattle.std.proofs.Common.{◌≡◌, ℕ, zero, suc, ◌+◌, ◌<◌, Bool, true, false, not, ◌&&◌, ◌||◌, ltb, List, [], ◌∷◌, ◌++◌, length, get_or, sym, refl, ap, ◌∙◌, subst, inl, inr, append_assoc, arith, length-append}
+use Rattle.std.proofs.Common.{◌≡◌, ℕ, zero, suc, ◌+◌, ◌<◌, Bool, true, false, not, ◌&&◌, ◌||◌, ltb, List, [], ◌∷◌, ◌++◌, map, length, get_or, sym, refl, ap, ◌∙◌, subst, inl, inr, append_assoc, arith, length-append}
 use Rattle.std.specs.List.{ContainsAt as Has}
 use Rattle.std.proofs.lemmas.List.{get_or_at, get_or_append_left, get_or_push, get_or-map, length_push}
 use Rattle.std.proofs.lemmas.Bool.{and_parts, ltb-true, cases_lt}
@@ -9,7 +9,7 @@ use Rattle.formula.specs.declared.Item.TheVariants.{Held, Failed}
 use Rattle.formula.specs.declared.Node.{Node}
 use Rattle.formula.specs.declared.Node.TheVariants.{Label, True, Not, And, Or, Previous, Since, Always, Once}
 use Rattle.formula.specs.Formulas.{Formula, truth, since, always, sometime, tree_of, formulas, operands_below, earlier}
-use Rattle.formula.specs.Items.{kept_items, lasting, is_always}
+use Rattle.formula.specs.Items.{lasting, is_always}
 use Rattle.formula.specs.Resting.{operands, below, resting}
 use Rattle.formula.proofs.Chosen.{selected}
 use Rattle.formula.proofs.Marks.{exact}
@@ -17,7 +17,9 @@ use Rattle.formula.proofs.Trees.{earlier_at, formulas_at, length-formulas}
 use Rattle.truth.specs.Truth.{Trace, before, holds}
 use Rattle.truth.proofs.Unfolding.{since_first, since_next, always_first, always_next, sometime_first, sometime_next}
 use Rattle.layer.specs.Judging.{node_of, recalled, verdict, verdicts_from, verdicts, item_held, memory_of}
-use Rattle.layer.specs.Records.{truths, tells}
+use Rattle.layer.specs.Records.{truths, memory_at, tells}
+use Rattle.wishbook.specs.Book.{Book, items_over}
+use Rattle.wishlayout.specs.declared.Wish.{Wish}
 use Rattle.layer.proofs.Counting.{bits_same}
 use Rattle.layer.proofs.Recalling.{item_recalls, recalled_empty}
 
@@ -25,13 +27,19 @@ before_same : (n : ℕ) (P Q : ℕ → Bool) → ((j : ℕ) → P j ≡ Q j) →
 before_same zero P Q h = refl
 before_same (suc n) P Q h = h n
 
-module _ (ns : List Node) (roots : List ℕ) (ok : earlier ns ≡ true) (τ : Trace) where
+module _ (ns : List Node) (ws : List Wish) (ok : earlier ns ≡ true) (τ : Trace) where
+  abbrev roots : List ℕ
+  roots = map (λ w. w.node) ws
+
   -- some wish rests on node i
   abbrev Used : ℕ → Type 0
   Used i = get_or (resting ns roots) i false ≡ true
 
   abbrev items : List Item
-  items = kept_items ns (resting ns roots)
+  items = items_over ns ws
+
+  abbrev pub book : Book
+  book = record { nodes = ns; wishes = ws; items = items }
 
   -- what the truth lines say of node i at position j
   abbrev true_at : ℕ → ℕ → Bool
@@ -164,18 +172,13 @@ module _ (ns : List Node) (roots : List ℕ) (ok : earlier ns ≡ true) (τ : Tr
   item_told n (Held i) has = told_at n i (item_used (Held i) has).0
   item_told n (Failed i) has = ap not (told_at n i (item_used (Failed i) has).0)
 
-  -- the memory after the positions below n
-  abbrev pub memory_at_state : ℕ → ℕ
-  memory_at_state zero = 0
-  memory_at_state (suc n) = memory_of items (truths ns τ n)
-
   -- it tells the truth of one position earlier, and nothing at the start
-  pub recalls_at : (n : ℕ) → Recalls n (recalled items (memory_at_state n))
+  pub recalls_at : (n : ℕ) → Recalls n (recalled items (memory_at book τ n))
   recalls_at zero x has = recalled_empty items x
   recalls_at (suc n) x has = item_recalls (truths ns τ n) items x has ∙ item_told n x has
 
   -- the memory worked out from right verdicts at position n is the next one
-  pub memory_next : (n : ℕ) (vs : List Bool) → length vs ≡ length ns → Right n vs → memory_of items vs ≡ memory_at_state (suc n)
+  pub memory_next : (n : ℕ) (vs : List Bool) → length vs ≡ length ns → Right n vs → memory_of items vs ≡ memory_at book τ (suc n)
   memory_next n vs long right =
       bits_same (item_held vs) (item_held (truths ns τ n)) items
       (λ x has. let used = item_used x has in from_node vs (truths ns τ n) x (right (node_of x) (omega (arith, used.0)) used.1 ∙ sym (told_at n (node_of x) used.0)))

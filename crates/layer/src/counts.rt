@@ -22,7 +22,7 @@ fn with_bit(bits: u64, low: bool) -> u64
     requires { bits < 2 ^ 32 }
     ensures { result ≡ bit_of low + 2 * bits }
 {
-    if low { 1 + 2 * bits } else { 2 * bits }
+    2 * bits + u64::from(low)
 }
 
 // A number from bits, one for each item; the first is the lowest.

@@ -1,30 +1,19 @@
 // How a state is judged: from the label mask and what is recalled, the truth of each node in rising order.
-ghost use Rattle.std.specs.Prelude.{◌≡◌, ◌<◌, ◌≤◌, true, false, length, take, slice_index_or, slice_set};
+ghost use Rattle.std.specs.Prelude.{◌≡◌, ◌<◌, ◌≤◌, false, length, take, slice_index_or};
 ghost use Rattle.wishbook.specs.Contents.{contents};
 ghost use Rattle.layer.specs.Judging.{recalled as recalled_in, verdict as verdict_of, verdicts};
 ghost use Rattle.layer.specs.Tables.{told};
 
 use crate::recalled::Recalled;
-use formula::Node;
+use formula::{Node, is_marked};
 use truth::shows;
 use wishbook::WishBook;
 
-// What a table of truths has at a place, false past its end.
-pub(crate) fn at(table: &[bool], place: u8) -> bool
-    ensures { result ≡ slice_index_or table.now place false }
+// What a table of truths has at the number of a node, false past its end.
+pub(crate) fn at(table: &[bool], node: u8) -> bool
+    ensures { result ≡ slice_index_or table.now node false }
 {
-    table.get(place as usize).copied().unwrap_or(false)
-}
-
-// Sets a place of a table of truths, unless it is past the end.
-pub(crate) fn mark(table: &mut [bool], place: u8)
-    ensures { table.new ≡ slice_set table.old place true }
-{
-    // After `get_mut` only the length of a slice is known to proofs.
-    let place = place as usize;
-    if place < table.len() {
-        table[place] = true;
-    }
+    is_marked(table, node as usize)
 }
 
 // The truth of the next node, after the nodes before it.

@@ -1,8 +1,8 @@
 // What a memory recalls of the nodes, in two tables by node number: what held, and what failed.
 ghost use Rattle.std.specs.Prelude.{◌≡◌, length};
 
-use crate::judging::{at, mark};
-use formula::Item;
+use crate::judging::at;
+use formula::{Item, mark};
 
 #[derive(Drop)]
 pub(crate) struct Recalled {
@@ -41,8 +41,8 @@ impl Recalled {
     {
         if bit {
             match item {
-                Item::Held(i) => mark(&mut self.held, i),
-                Item::Failed(i) => mark(&mut self.failed, i),
+                Item::Held(i) => mark(&mut self.held, i as usize),
+                Item::Failed(i) => mark(&mut self.failed, i as usize),
             }
         }
     }
