@@ -1,7 +1,7 @@
 // What can be asked of a bounded list, and how an item is added.
 ghost use Rattle.bounded.specs.Listed.{listed};
 ghost use Rattle.std.specs.List.{slice_get};
-ghost use Rattle.std.specs.Prelude.{◌≡◌, ◌<◌, ◌≤◌, ◌↔◌, [], ◌∷◌, ◌++◌, length, take, IsOk, IfErr, OnOk, OnErr};
+ghost use Rattle.std.specs.Prelude.{◌≡◌, ◌<◌, ◌≤◌, ◌↔◌, [], ◌∷◌, ◌++◌, length, take, IsOk, IfErr, OnOk, OnErr, slice_set};
 
 use crate::Bounded;
 use std::default::Default;
@@ -69,6 +69,15 @@ impl<T: Copy, const MOST: usize> Bounded<T, MOST> {
         self.places[self.len] = item;
         self.len += 1;
         Ok(())
+    }
+
+    // Puts another item in place of item `i`, if there is one.
+    pub fn replace(&mut self, i: usize, item: T)
+        ensures { listed self.new ≡ slice_set (listed self.old) i item }
+    {
+        if i < self.len {
+            self.places[i] = item;
+        }
     }
 }
 

@@ -3,7 +3,7 @@
 
 #![tactic(auto)]
 
-ghost use Rattle.std.specs.Prelude.{◌≡◌, ◌+◌, ◌<◌, ◌≤◌, length, slice_set, position, ◌==◌};
+ghost use Rattle.std.specs.Prelude.{◌≡◌, ◌+◌, ◌<◌, ◌≤◌, length, position, ◌==◌};
 ghost use Rattle.bounded.specs.Listed.{listed};
 ghost use Rattle.model.specs.Models.{total as weights};
 ghost use Rattle.rulelayout.specs.Rule.{total};
@@ -38,17 +38,6 @@ fn place_of(ways: &[Outcome], target: u64) -> Option<usize>
     ways.iter().position(|way| target == way.target)
 }
 
-// The outcomes with another one at a place.
-fn replaced(ways: &Outcomes, place: usize, other: Outcome) -> Outcomes
-    ensures { listed result ≡ slice_set (listed ways.now) place other }
-{
-    let mut all = Outcomes::new();
-    for (i, way) in ways.iter().enumerate() {
-        let _ = all.push(if i == place { other } else { *way });
-    }
-    all
-}
-
 // With one more landing: its weight comes to the outcome with this target, or to a new one at the end.
 fn with_landing(mut ways: Outcomes, target: u64, weight: u8) -> Outcomes
     ensures { length (listed ways) < 8 → weights (listed ways) + weight < 256 → listed result ≡ added (listed ways) target weight }
@@ -57,13 +46,13 @@ fn with_landing(mut ways: Outcomes, target: u64, weight: u8) -> Outcomes
         Some(place) => {
             let way = ways[place];
             let weight = way.weight.saturating_add(weight);
-            replaced(&ways, place, Outcome { weight, ..way })
+            ways.replace(place, Outcome { weight, ..way });
         }
         None => {
             let _ = ways.push(Outcome { target, weight });
-            ways
         }
     }
+    ways
 }
 
 // The outcomes in a state of an action with these effects: those that land alike are one, at the first one's place, with their
