@@ -2,7 +2,7 @@
 
 #![tactic(auto)]
 
-ghost use Rattle.std.specs.Prelude.{◌≡◌, ◌≤◌, length};
+ghost use Rattle.std.specs.Prelude.{⊤, ◌≡◌, ◌≤◌, length};
 
 use std::alloc::AllocError;
 
@@ -20,6 +20,8 @@ impl<T: Copy, const MOST: usize> Copy for Bounded<T, MOST> {}
 
 impl<T: Copy, const MOST: usize> Clone for Bounded<T, MOST> {
     ghost is_clone = { λ b c. c ≡ b };
+
+    ghost is_infallible = { λ _. ⊤ };
 
     fn clone(&self) -> Result<Self, AllocError> {
         Ok(*self)

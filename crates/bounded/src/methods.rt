@@ -81,6 +81,14 @@ impl<T: Copy, const MOST: usize> Bounded<T, MOST> {
     }
 }
 
+impl<T: Copy + Default, const MOST: usize> Default for Bounded<T, MOST> {
+    ghost is_default = { λ b. listed b ≡ [] };
+
+    fn default() -> Self {
+        Bounded::new()
+    }
+}
+
 impl<T: Copy, const MOST: usize> DerefSlice for Bounded<T, MOST> {
     type Elem = T;
 

@@ -67,7 +67,7 @@ fn lay_all(ground: Ground, wishes: &[&str]) -> Result<String, Failure> {
     Ok(text)
 }
 
-// One book more, on top.
+// One book more, on top: in the first place that is free. With `find` the check doesn't see that the places are still the ones lent.
 fn put(books: &mut [Option<WishBook>; 3], book: WishBook) {
     for place in books.iter_mut() {
         if place.is_none() {

@@ -4,7 +4,7 @@ ghost use Rattle.std.proofs.Common.{rules, ◌+◌, ◌*◌};
 use super::Node;
 use register::Key;
 
-// Nodes of one kind that have other operands fall into other buckets.
+// A node's operands make the number that its bucket comes of; nodes with few operands in common mostly fall apart.
 impl Key for Node {
     ghost bucket = { λ node. first_of node + 256 * second_of node };
 

@@ -18,6 +18,7 @@ use Rattle.layer.specs.Sizes.{bits_below, bits_small, mask_grows, earned_within}
 
 -- what a book that fits leaves room for
 pub record Room (m : Model) (b : Book) : Type 0 where
+  pub named : all (names_label_below m.labels) b.nodes ≡ true
   pub labels : m.labels + length b.wishes ≤ 24
   pub bound : m.bound + amounts b.wishes ≤ 2000
   pub span : m.span ≤ 2 ^ 44
@@ -28,6 +29,7 @@ room m b e =
     let labels = and_parts (all (names_label_below m.labels) b.nodes) (nat_le (m.labels + length b.wishes) 24) whole.0 in
     let sizes = and_parts (bound_fits m b) (span_fits m) whole.1 in
     record {
+      named = labels.0;
       labels = leb-true (m.labels + length b.wishes) 24 labels.1;
       bound = leb-true (m.bound + amounts b.wishes) 2000 sizes.0;
       span = leb-true m.span (2 ^ 44) sizes.1;

@@ -23,6 +23,7 @@ impl OriginBook {
     }
 }
 
+// Every question but that of the ground goes to the book; a trait's methods are handed on one by one.
 impl SiteModel for OriginBook {
     ghost meaning = { λ o. by_origin (contents o.book) };
 

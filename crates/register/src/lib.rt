@@ -26,7 +26,8 @@ pub trait Key: Copy + Eq {
     ghost decides: { Decides Self.PartialEq.eq };
 }
 
-// The first `len` elements of the table are the keys, each once. The first 4,096 of them are found by their buckets.
+// The first `len` elements of the table are the keys, each once. The table is lent: how long it is, is the caller's to say. The first 4,096
+// keys are found by their buckets.
 #[derive(Drop)]
 pub struct Register<'a, K: Key> {
     keys: &'a mut [K],

@@ -76,7 +76,7 @@ pub fn read_head(word: u32) -> Result<RuleHead, Refusal>
 }
 
 // The fields of an action's word or of an outcome's, as its kind says, in a book with so many switches; or what is wrong with
-// it.
+// it. Any number may be asked for as the kind: an enum would take away answers that callers have.
 pub fn read_masks(kind: u32, switches: u32, word: u32) -> Result<Masks, Refusal>
     ensures { result ≡ masks_of kind switches word }
 {

@@ -10,7 +10,8 @@ use formula::Node;
 use refusal::Refusal;
 use words::{field, open};
 
-// The kinds of a wish word and of an end word. Node words have the kinds of `NodeKind`.
+// The kinds of a wish word and of an end word. They are no kinds of node words: in the enum of those, the reader of a node would have to
+// answer for two more that it can only refuse.
 pub const WISH: u32 = 10;
 
 pub const END: u32 = 15;

@@ -46,6 +46,7 @@ pub fn read<D: Draft>(bytes: &[u8]) -> Result<D::Book, Fault>
     ensures { Answers D.Means (reading D.format bytes.now) result }
 {
     let mut draft = D::blank();
+    // The words are counted as they are taken off the bytes: what is left decides too, at the end word.
     let mut rest = bytes;
     let mut place = 0;
     loop {
@@ -69,8 +70,5 @@ fn ended<D: Draft>(draft: D, word: u32, place: usize, rest: &[u8]) -> Result<D::
     if !is_last(word, place, rest) {
         return Err(Refusal::WrongEnd.at(place));
     }
-    match draft.finish() {
-        Ok(book) => Ok(book),
-        Err(refusal) => Err(refusal.at(place)),
-    }
+    draft.finish().map_err(|refusal| refusal.at(place))
 }
