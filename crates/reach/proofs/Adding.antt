@@ -19,10 +19,6 @@ use Rattle.reach.specs.Search.{targets_below, leads_to, listed_after, codes_of}
 use Rattle.reach.proofs.Turns.{listed_next, listed_within, listed_complete}
 use Rattle.reach.proofs.Searching.{search_lists, search_exceeds}
 
--- one key more
-pub added_more : (held now' after ks : List ℕ) (k : ℕ) → now' ≡ enter_all eqb held ks → after ≡ enter eqb k now' → after ≡ enter_all eqb held (ks ++ (k ∷ []))
-added_more held now' after ks k e f = f ∙ ap (enter eqb k) e ∙ sym (enter_all-append eqb held ks (k ∷ []))
-
 -- several keys more
 pub added_all : (held now' after ks js : List ℕ) → now' ≡ enter_all eqb held ks → after ≡ enter_all eqb now' js → after ≡ enter_all eqb held (ks ++ js)
 added_all held now' after ks js e f = f ∙ ap (λ l. enter_all eqb l js) e ∙ sym (enter_all-append eqb held ks js)

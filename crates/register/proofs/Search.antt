@@ -78,16 +78,6 @@ later_none eq D ks k n none q l m e =
     let same : get_or ks (n + i) k ≡ k = subst (λ (j : ℕ). get_or ks j k ≡ k) (sym at) e in
     both_ways (eq k k) (subst (λ (x : _). eq x k ≡ false) same other) (D.self k)
 
--- and where there are none so far
-pub later_short : {K : Type 0} (ks : List K) (k : K) (n : ℕ) → length ks ≤ n → Found ks k n (length ks) None
-later_short ks k n short q l m e = absurd (omega arith)
-
--- the key at a chained place where it is found
-pub chained_some : {K : Type 0} (xs : List K) (k x : K) (len p : ℕ) → len ≤ length xs → p < min len 4096 → x ≡ get_or xs p x → x ≡ k → Found (take len xs) k 0 (min len 4096) (Some p)
-chained_some xs k x len p fits l read same =
-    let within : p < len = omega arith in
-    (omega arith, l, get_or-take len xs p k within ∙ sym (get_or_read xs p x (omega arith) read k) ∙ same)
-
 -- and where the search has nothing left to see
 pub chained_none : {K : Type 0} (xs : List K) (bs : List ℕ) (k : K) (b len at : ℕ) → Sought xs bs (min len 4096) k b at → at ≤ 0 → Found (take len xs) k 0 (min len 4096) None
 chained_none xs bs k b len at s none q l m e =

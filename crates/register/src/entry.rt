@@ -1,3 +1,4 @@
+// What the table holds after is each function's own to say: all as it was, or all after the keys; that it is the lent one, all of them say.
 ghost use Rattle.register.specs.Keys.{Entered};
 ghost use Rattle.register.specs.Listed.{listed};
 ghost use Rattle.std.specs.Prelude.{◌≡◌, length, drop};

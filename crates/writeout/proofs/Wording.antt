@@ -28,11 +28,6 @@ pub cell_said : (actions k : ℕ) (ms : List Move) → 0 < length ms → cell_wo
 cell_said actions k [] l = absurd (omega arith)
 cell_said actions k (m ∷ ms) l = refl
 
--- and one that is not
-pub cell_none : (actions k : ℕ) (ms : List Move) → length ms ≤ 0 → cell_word actions k ms ≡ []
-cell_none actions k [] l = refl
-cell_none actions k (m ∷ ms) l = absurd (omega arith)
-
 pub below_length : (m : Model) (codes : List ℕ) (c n : ℕ) → length (cells_below m codes c n) ≡ n
 below_length m codes c zero = refl
 below_length m codes c (suc n) = omega (arith, length_push (cells_below m codes c n) (cell_of m codes c n), below_length m codes c n)

@@ -36,9 +36,3 @@ returns-in_err-add_outcomes-clause-added g c =
 
 pub returns-in_err-add_outcomes-clause-onto : goal.returns-in_err-add_outcomes-clause-onto
 returns-in_err-add_outcomes-clause-onto g c = onto_both c.args.codes.now c.loop-action.codes c.add_outcomes.new.codes c.loop-action.invariant.2 c.in_err-add_outcomes.ensures.onto
-
-pub returns-clause-added : goal.returns-clause-added
-returns-clause-added g c =
-    let m = g.M.SiteModel.meaning c.args.m.now in
-    let all : c.loop-action.action ≡ m.actions = omega (arith, c.actions-action-end.ensures.actions) in
-    (c.loop-action.invariant.0 ∙ ap (λ n. enter_all eqb (listed c.args.codes.now) (targets_below m c.args.state n)) all, c.loop-action.invariant.1)

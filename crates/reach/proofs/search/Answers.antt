@@ -62,11 +62,6 @@ loop-state-preserved g c =
     let turn = search_turn m c.loop-state.place (listed c.loop-state.codes) (listed c.add_targets.new.codes) c.in-Some.state inv.0 at.0 (at.1 0) told.added.0 in
     (turn.0, turn.1, told.added.1 inv.2, onto_both c.list.new.codes c.loop-state.codes c.add_targets.new.codes inv.3 told.onto)
 
-pub loop-state-smaller : goal.loop-state-smaller
-loop-state-smaller g c =
-    let at = c.in-Some.ensures in
-    omega (arith, at.0, listed-length c.loop-state.codes, c.loop-state.invariant.2)
-
 pub returns-clause-answer : goal.returns-clause-answer
 returns-clause-answer g c =
     let m = g.M.SiteModel.meaning c.args.m.now in

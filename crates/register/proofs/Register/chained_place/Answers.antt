@@ -1,6 +1,6 @@
-use Rattle.std.proofs.Common.{◌-◌, get_or, min, sym, ap, ◌∙◌, arith}
+use Rattle.std.proofs.Common.{get_or, min, sym, ap, ◌∙◌, arith}
 use Rattle.register.specs.Chains.{bucket_in, buckets}
-use Rattle.register.proofs.Search.{tells, sought_first, chained_some, chained_none, chained_back}
+use Rattle.register.proofs.Search.{tells, sought_first, chained_back}
 use Rattle.register.proofs.Register.chained_place.Goals as goal
 
 pub loop-at-init : goal.loop-at-init
@@ -13,12 +13,6 @@ loop-at-init g c =
     (get_or s.chains.heads c.bucket_of.result 0)
     (ap (λ i. get_or s.chains.heads i 0) c.bucket_of.ensures.bucket ∙ s.chained.last b (omega arith))
 
-pub returns-then-eq : goal.returns-then-eq
-returns-then-eq g c =
-    let s = c.args.self.now in
-    chained_some s.keys.now c.args.key.now c.index-keys-place.result s.len (c.loop-at.at - 1) s.fits (omega (arith, c.loop-at.invariant.within, c.loop-at-test.true)) c.index-keys-place.is
-    (g.met.K.Key.decides.only _ _ (sym c.eq.ensures ∙ c.if-eq.true))
-
 pub loop-at-smaller : goal.loop-at-smaller
 loop-at-smaller g c =
     let s = c.args.self.now in
@@ -28,8 +22,3 @@ pub loop-at-preserved : goal.loop-at-preserved
 loop-at-preserved g c =
     let s = c.args.self.now in
     (chained_back g.K.PartialEq.eq g.met.K.Key.decides g.K.Key.bucket s.keys.now s.chains.heads s.chains.earlier c.args.key.now c.index-keys-place.result s.len c.loop-at.at s.fits s.chained c.loop-at.invariant c.loop-at-test.true c.index-keys-place.is (sym c.eq.ensures ∙ c.if-eq.false)).1
-
-pub returns : goal.returns
-returns g c =
-    let s = c.args.self.now in
-    chained_none s.keys.now _ c.args.key.now _ s.len c.loop-at.at c.loop-at.invariant (omega arith)

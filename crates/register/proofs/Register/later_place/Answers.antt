@@ -1,18 +1,10 @@
-use Rattle.std.proofs.Common.{◌≡◌, ◌≤◌, true, false, length, drop, ap, ◌-◌, ◌∙◌, rules, arith}
+use Rattle.std.proofs.Common.{◌≡◌, true, false, length, drop, ap, ◌-◌, ◌∙◌, rules, arith}
 use borrow.Author.Tests.{tests}
 use Rattle.std.proofs.lemmas.Iterator.{IsFirst-from_position, YieldsList-from_slice}
 use Rattle.std.proofs.lemmas.List.{take_all, length-drop}
 use Rattle.register.specs.Listed.{listed}
-use Rattle.register.proofs.Search.{later_some, later_none, later_short}
+use Rattle.register.proofs.Search.{later_some, later_none}
 use Rattle.register.proofs.Register.later_place.Goals as goal
-
-pub returns-in_err-later : goal.returns-in_err-later
-returns-in_err-later g c =
-    let ks = listed c.args.self.now in
-    let size : length ks ≡ c.args.self.now.len = search rules in
-    let short : length ks ≤ 4096 = search rules in
-    let none = later_short ks c.args.key.now 4096 short in
-    search (rules, size, none)
 
 pub returns-in_err-place : goal.returns-in_err-place
 returns-in_err-place g c =

@@ -1,15 +1,12 @@
 use Rattle.std.proofs.Common.{◌≡◌, ◌+◌, ◌*◌, ◌<◌, ◌++◌, length, get_or, take, sym, ap, ◌∙◌, subst, arith}
-use Rattle.std.proofs.lemmas.List.{take_more, take_all, length-take-le}
+use Rattle.std.proofs.lemmas.List.{take_more, length-take-le}
 use Rattle.register.specs.Listed.{listed}
 use Rattle.pen.specs.Laid.{Adds}
-use Rattle.pen.proofs.Laying.{adds_none, adds_both}
+use Rattle.pen.proofs.Laying.{adds_both}
 use Rattle.sitelayout.specs.Layout.{cell_words}
 use Rattle.writeout.specs.Book.{cells_below, cells_of}
 use Rattle.writeout.proofs.Wording.{states_more}
 use Rattle.writeout.proofs.listing.Listing.write_cells.Goals as goal
-
-pub loop-place-init : goal.loop-place-init
-loop-place-init g c = adds_none c.args.pen.now
 
 pub loop-place-preserved : goal.loop-place-preserved
 loop-place-preserved g c =
@@ -25,9 +22,3 @@ loop-place-preserved g c =
     subst (λ ws. Adds ws c.args.pen.now c.write_state.new.pen) (sym more)
     (adds_both (cell_words m.actions 0 (cells_of m codes (take i codes))) (cell_words m.actions (i * m.actions) (cells_below m codes code m.actions)) c.args.pen.now c.loop-place.pen c.write_state.new.pen c.loop-place.invariant
     (subst (λ xs. Adds (cell_words m.actions (i * m.actions) (cells_below m codes (get_or xs i 0) m.actions)) c.loop-place.pen c.write_state.new.pen) same c.write_state.ensures))
-
-pub returns : goal.returns
-returns g c =
-    let m = g.M.SiteModel.meaning c.args.self.now.model.now in
-    let codes = listed c.args.self.now.codes.now in
-    subst (λ l. Adds (cell_words m.actions 0 (cells_of m codes l)) c.args.pen.now c.loop-place.pen) (take_all c.loop-place.place codes (omega (arith, c.loop-place-test.false, ap length c.as_slice-code-items.ensures))) c.loop-place.invariant

@@ -1,15 +1,11 @@
-use Rattle.std.proofs.Common.{◌≡◌, ◌+◌, [], ◌∷◌, ◌++◌, map, length, get_or, take, sym, ap, ◌∙◌, subst, arith}
-use Rattle.std.proofs.lemmas.List.{map_more, take_all}
-use Rattle.register.specs.Listed.{listed}
+use Rattle.std.proofs.Common.{◌≡◌, ◌+◌, [], ◌∷◌, ◌++◌, map, get_or, take, sym, ap, ◌∙◌, subst}
+use Rattle.std.proofs.lemmas.List.{map_more}
 use Rattle.pen.specs.Laid.{Adds}
-use Rattle.pen.proofs.Laying.{adds_none, adds_both}
+use Rattle.pen.proofs.Laying.{adds_both}
 use Rattle.sitelayout.specs.Layout.{mark_words}
 use Rattle.writeout.specs.Book.{mark_of}
 use Rattle.writeout.proofs.Wording.{marks-append}
 use Rattle.writeout.proofs.listing.Listing.write_marks.Goals as goal
-
-pub loop-code-init : goal.loop-code-init
-loop-code-init g c = adds_none c.args.pen.now
 
 pub loop-code-preserved : goal.loop-code-preserved
 loop-code-preserved g c =
@@ -24,9 +20,3 @@ loop-code-preserved g c =
     (adds_both (mark_words (map (mark_of m) (take i xs))) (mark_words (mark_of m code ∷ [])) c.args.pen.now c.loop-code.pen c.write_mark.new.pen
     (subst (λ l. Adds (mark_words (map (mark_of m) (take i l))) c.args.pen.now c.loop-code.pen) (sym c.as_slice-code-items.ensures) c.loop-code.invariant)
     c.write_mark.ensures))
-
-pub returns : goal.returns
-returns g c =
-    let m = g.M.SiteModel.meaning c.args.self.now.model.now in
-    let codes = listed c.args.self.now.codes.now in
-    subst (λ xs. Adds (mark_words (map (mark_of m) xs)) c.args.pen.now c.loop-code.pen) (take_all c.loop-code.code-index codes (omega (arith, c.loop-code-test.false, ap length c.as_slice-code-items.ensures))) c.loop-code.invariant

@@ -1,17 +1,14 @@
 use Rattle.std.proofs.Common.{◌≡◌, ◌+◌, [], ◌∷◌, ◌++◌, map, get_or, take, sym, ap, ◌∙◌, subst}
-use Rattle.std.proofs.lemmas.List.{map_more, take_all}
+use Rattle.std.proofs.lemmas.List.{map_more}
 use Rattle.register.specs.Listed.{listed}
 use Rattle.model.specs.declared.Outcome.{Outcome}
 use Rattle.pen.specs.Laid.{Adds}
-use Rattle.pen.proofs.Laying.{adds_none, adds_both}
+use Rattle.pen.proofs.Laying.{adds_both}
 use Rattle.sitelayout.specs.Layout.{move_words}
 use Rattle.sitelayout.specs.OneWord.{word_of_move}
 use Rattle.writeout.specs.Book.{move_to}
 use Rattle.writeout.proofs.Wording.{moves-append}
 use Rattle.writeout.proofs.listing.Listing.write_moves.Goals as goal
-
-pub loop-way-init : goal.loop-way-init
-loop-way-init g c = adds_none c.args.pen.now
 
 pub loop-way-preserved : goal.loop-way-preserved
 loop-way-preserved g c =
@@ -25,9 +22,3 @@ loop-way-preserved g c =
     subst (λ w. Adds (w ∷ []) c.loop-way.pen c.put.new.self) (c.move_word.ensures ∙ ap (λ t. word_of_move (record { target = t; weight = (get_or os i d).weight })) c.place_of.ensures) c.put.ensures in
     subst (λ ws. Adds ws c.args.pen.now c.put.new.self) (sym more)
     (adds_both (move_words (map (move_to codes) (take i os))) (word_of_move (move_to codes (get_or os i d)) ∷ []) c.args.pen.now c.loop-way.pen c.put.new.self c.loop-way.invariant one)
-
-pub returns : goal.returns
-returns g c =
-    subst (λ os. Adds (move_words (map (move_to (listed c.args.self.now.codes.now)) os)) c.args.pen.now c.loop-way.pen)
-    (take_all c.loop-way.way-index c.as_slice-way-items.result.now c.loop-way-test.false ∙ c.as_slice-way-items.ensures.items)
-    c.loop-way.invariant

@@ -1,14 +1,11 @@
-use Rattle.std.proofs.Common.{◌≡◌, ◌+◌, ◌*◌, sym, subst, arith}
+use Rattle.std.proofs.Common.{◌+◌, ◌*◌, sym, subst}
 use Rattle.register.specs.Listed.{listed}
 use Rattle.pen.specs.Laid.{Adds}
-use Rattle.pen.proofs.Laying.{adds_none, adds_both}
+use Rattle.pen.proofs.Laying.{adds_both}
 use Rattle.sitelayout.specs.Layout.{cell_word, cell_words}
 use Rattle.writeout.specs.Book.{cell_of, cells_below}
 use Rattle.writeout.proofs.Wording.{below_more}
 use Rattle.writeout.proofs.listing.Listing.write_state.Goals as goal
-
-pub loop-action-init : goal.loop-action-init
-loop-action-init g c = adds_none c.args.pen.now
 
 pub loop-action-preserved : goal.loop-action-preserved
 loop-action-preserved g c =
@@ -17,9 +14,3 @@ loop-action-preserved g c =
     let a = c.loop-action.action in
     subst (λ ws. Adds ws c.args.pen.now c.write_cell.new.pen) (sym (below_more m codes c.args.code c.args.place a))
     (adds_both (cell_words m.actions (c.args.place * m.actions) (cells_below m codes c.args.code a)) (cell_word m.actions (c.args.place * m.actions + a) (cell_of m codes c.args.code a)) c.args.pen.now c.loop-action.pen c.write_cell.new.pen c.loop-action.invariant c.write_cell.ensures)
-
-pub returns : goal.returns
-returns g c =
-    let m = g.M.SiteModel.meaning c.args.self.now.model.now in
-    let all : c.loop-action.action ≡ m.actions = omega (arith, c.actions-action-end.ensures.actions) in
-    subst (λ n. Adds (cell_words m.actions (c.args.place * m.actions) (cells_below m (listed c.args.self.now.codes.now) c.args.code n)) c.args.pen.now c.loop-action.pen) all c.loop-action.invariant
