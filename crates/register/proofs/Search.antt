@@ -1,10 +1,10 @@
 -- The search for a key goes back through its bucket: what it has yet to see holds the key, if any chained place does.
-use Rattle.std.proofs.Common.{◌≡◌, ℕ, ◌+◌, ◌-◌, ◌<◌, ◌≤◌, ◌≢◌, Bool, true, false, List, length, get_or, drop, take, min, Some, None, Option, sym, ap, ◌∙◌, subst, ⊎_elim, arith}
+use Rattle.std.proofs.Common.{◌≡◌, ℕ, ◌+◌, ◌-◌, ◌<◌, ◌≤◌, ◌≢◌, Bool, true, false, List, length, get_or, drop, min, Some, None, Option, sym, ap, ◌∙◌, subst, ⊎_elim, arith}
 use Rattle.register.specs.Chains.{bucket_in, buckets, latest, Chained}
 use Rattle.register.specs.Keys.{Decides, Distinct, place_of, Placed, Found}
 use Rattle.register.proofs.Keys.{place_of_le, place_of_at, place_of-get_or}
 use Rattle.register.proofs.Latest.{latest_within, latest_in, latest_past}
-use Rattle.std.proofs.lemmas.List.{get_or-map, get_or-drop, get_or-take, get_or_read, length-drop}
+use Rattle.std.proofs.lemmas.List.{get_or-map, get_or-drop, get_or_read, length-drop}
 use Rattle.std.proofs.lemmas.Bool.{both_ways, cases_lt}
 use Rattle.std.specs.List.{HoldsAt, AllWithin}
 
@@ -77,13 +77,6 @@ later_none eq D ks k n none q l m e =
     let other = subst (λ (x : _). eq x k ≡ false) (get_or-drop n ks i k) (none i k (omega arith) (omega (arith, length-drop n ks))) in
     let same : get_or ks (n + i) k ≡ k = subst (λ (j : ℕ). get_or ks j k ≡ k) (sym at) e in
     both_ways (eq k k) (subst (λ (x : _). eq x k ≡ false) same other) (D.self k)
-
--- and where the search has nothing left to see
-pub chained_none : {K : Type 0} (xs : List K) (bs : List ℕ) (k : K) (b len at : ℕ) → Sought xs bs (min len 4096) k b at → at ≤ 0 → Found (take len xs) k 0 (min len 4096) None
-chained_none xs bs k b len at s none q l m e =
-    let within : q < len = omega arith in
-    let before : q < at = s.past q m (sym (get_or-take len xs q k within) ∙ e) in
-    absurd (omega arith)
 
 -- where it is another key that stands there, the search goes one place further back
 pub chained_back : {K : Type 0} (eq : K → K → Bool) → Decides eq → (number : K → ℕ) (xs : List K) (heads earlier : List ℕ) (k x : K) (len at : ℕ) → len ≤ length xs → Chained heads earlier (buckets number xs) (min len 4096) → Sought xs (buckets number xs) (min len 4096) k (bucket_in number k) at → 0 < at → x ≡ get_or xs (at - 1) x → eq x k ≡ false → (get_or earlier (at - 1) 0 < at) × Sought xs (buckets number xs) (min len 4096) k (bucket_in number k) (get_or earlier (at - 1) 0)
