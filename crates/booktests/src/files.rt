@@ -1,7 +1,7 @@
 // Files made from rows of tables, and what the readers answer to them.
 ghost use Rattle.std.specs.Prelude.{◌≡◌, ◌≢◌, OnOk, OnErr};
 
-use refusal::Fault;
+use refusal::{Fault, Unread};
 use rulebook::read_rule;
 use sitebook::read_site;
 use std::alloc::{AllocError, Global};
@@ -11,7 +11,7 @@ use wishbook::read_wish;
 
 // A reader of books: why it refuses a file, if it does.
 pub trait Reader: Drop {
-    fn refusal_of(&self, file: &[u8]) -> Option<Fault>;
+    fn refusal_of(&self, file: &[u8]) -> Result<Option<Fault>, AllocError>;
 }
 
 #[derive(Clone, Copy)]
@@ -24,32 +24,33 @@ pub struct Rule;
 pub struct Wish;
 
 impl Reader for Site {
-    fn refusal_of(&self, file: &[u8]) -> Option<Fault> {
-        read_site(self.0, file).err()
+    fn refusal_of(&self, file: &[u8]) -> Result<Option<Fault>, AllocError> {
+        match read_site(self.0, file) {
+            Ok(_) => Ok(None),
+            Err(Unread::Refused(fault)) => Ok(Some(fault)),
+            Err(Unread::Memory(error)) => Err(error),
+        }
     }
 }
 
 impl Reader for Rule {
-    fn refusal_of(&self, file: &[u8]) -> Option<Fault> {
-        read_rule(file).err()
+    fn refusal_of(&self, file: &[u8]) -> Result<Option<Fault>, AllocError> {
+        Ok(read_rule(file).err())
     }
 }
 
 impl Reader for Wish {
-    fn refusal_of(&self, file: &[u8]) -> Option<Fault> {
-        read_wish(file).err()
+    fn refusal_of(&self, file: &[u8]) -> Result<Option<Fault>, AllocError> {
+        Ok(read_wish(file).err())
     }
 }
 
 // The number and the place of a refusal, or 0 and 0 where the book is accepted: rows name refusals as people do.
 pub type Answer = (u8, usize);
 
-// Want of memory, which has no number, is 255.
-pub fn answer_to<R: Reader>(reader: &R, file: &[u8]) -> Answer {
-    match reader.refusal_of(file) {
-        Some(fault) => (fault.refusal.number().unwrap_or(255), fault.place),
-        None => (0, 0),
-    }
+pub fn answer_to<R: Reader>(reader: &R, file: &[u8]) -> Result<Answer, AllocError> {
+    let refusal = reader.refusal_of(file)?;
+    Ok(refusal.map_or((0, 0), |fault| (fault.refusal.number(), fault.place)))
 }
 
 // A name; a place in a base book, how many words are taken out there and what is put in; the answer.
@@ -136,7 +137,7 @@ impl<R: Reader> Bench<R> {
         place: D,
     ) -> Result<(), Fail> {
         let file = bytes_of(self.heap, words)?;
-        same(answer_to(&self.reader, file.as_slice()), expected, place)
+        same(answer_to(&self.reader, file.as_slice())?, expected, place)
     }
 
     pub fn edits(&self, rows: &[Edit]) -> Result<(), Fail> {
@@ -153,7 +154,7 @@ impl<R: Reader> Bench<R> {
             let words = self.spliced(*keep, ALL, put)?;
             let mut file = bytes_of(self.heap, words.as_slice())?;
             file.resize(file.len().saturating_add(*tail), 255)?;
-            same(answer_to(&self.reader, file.as_slice()), *expected, name)?;
+            same(answer_to(&self.reader, file.as_slice())?, *expected, name)?;
         }
         Ok(())
     }
@@ -223,10 +224,10 @@ impl<R: Reader> Bench<R> {
         close(&mut words)?;
         let file = bytes_of(self.heap, words.as_slice())?;
         let bytes = file.as_slice();
-        same(answer_to(&self.reader, bytes), (0, 0), "whole")?;
+        same(answer_to(&self.reader, bytes)?, (0, 0), "whole")?;
         for kept in 0..bytes.len() {
             same(
-                answer_to(&self.reader, &bytes[..kept]),
+                answer_to(&self.reader, &bytes[..kept])?,
                 (1, kept / 4),
                 format_args!("{kept} bytes"),
             )?;

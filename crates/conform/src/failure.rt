@@ -1,5 +1,5 @@
 // What is answered where a command is not carried out.
-use refusal::Fault;
+use refusal::{Fault, Unread};
 use std::alloc::{AllocError, AllocFailed};
 use std::fmt;
 
@@ -16,10 +16,9 @@ impl fmt::Display for Failure {
         match self {
             Failure::Unknown => f.write_str("unknown"),
             Failure::Unreadable => f.write_str("unreadable"),
-            Failure::Refused(fault) => match fault.refusal.number() {
-                Some(number) => write!(f, "refused {number} {}", fault.place),
-                None => f.write_str("no memory"),
-            },
+            Failure::Refused(fault) => {
+                write!(f, "refused {} {}", fault.refusal.number(), fault.place)
+            }
             Failure::Memory(_) => f.write_str("no memory"),
         }
     }
@@ -28,6 +27,15 @@ impl fmt::Display for Failure {
 impl From<Fault> for Failure {
     fn from(fault: Fault) -> Failure {
         Failure::Refused(fault)
+    }
+}
+
+impl From<Unread> for Failure {
+    fn from(why: Unread) -> Failure {
+        match why {
+            Unread::Refused(fault) => Failure::Refused(fault),
+            Unread::Memory(error) => Failure::Memory(error),
+        }
     }
 }
 

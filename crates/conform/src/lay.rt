@@ -1,5 +1,6 @@
 // Laying wish books, one after another, on a ground model.
 use crate::failure::Failure;
+use crate::kind::Kind;
 use crate::unhex;
 use ground::GroundBook;
 use layer::lay;
@@ -14,67 +15,62 @@ use wishbook::{WishBook, read_wish};
 #[derive(Clone, Copy)]
 struct Ground<'a> {
     heap: Global,
-    kind: &'a str,
+    kind: Kind,
     bytes: &'a [u8],
 }
 
 impl Ground<'_> {
     fn read(&self) -> Result<GroundBook, Failure> {
         match self.kind {
-            "site" => read_site(self.heap, self.bytes).map(GroundBook::Site),
-            "rule" => read_rule(self.bytes).map(GroundBook::Rule),
-            _ => return Err(Failure::Unreadable),
+            Kind::Site => Ok(GroundBook::Site(read_site(self.heap, self.bytes)?)),
+            Kind::Rule => Ok(GroundBook::Rule(read_rule(self.bytes)?)),
+            Kind::Wish => Err(Failure::Unreadable),
         }
-        .map_err(|_| Failure::Unreadable)
     }
 
-    // The books laid on it, the first one lowest.
-    fn pile(&self, books: [Option<WishBook>; 3]) -> Result<Three<GroundBook>, Failure> {
-        let [first, second, third] = books;
-        Ok(stack(self.read()?, first, second, third))
+    // The books laid on it, the first one lowest. No fourth book comes: none can be laid on three.
+    fn pile(&self, books: &[WishBook]) -> Result<Three<GroundBook>, Failure> {
+        let ground = self.read().map_err(unreadable)?;
+        let book = |i: usize| books.get(i).copied();
+        Ok(stack(ground, book(0), book(1), book(2)))
+    }
+}
+
+// A book that is to be laid, or to be laid on, has to be one; why it is none is not told.
+fn unreadable(failure: Failure) -> Failure {
+    match failure {
+        Failure::Memory(_) => failure,
+        _ => Failure::Unreadable,
     }
 }
 
 fn wish_of(heap: Global, hex: &str) -> Result<WishBook, Failure> {
-    let bytes = match unhex(heap, hex) {
-        Err(Failure::Unknown) => return Err(Failure::Unreadable),
-        bytes => bytes?,
-    };
-    read_wish(bytes.as_slice()).map_err(|_| Failure::Unreadable)
+    let bytes = unhex(heap, hex)?;
+    Ok(read_wish(bytes.as_slice())?)
 }
 
 // Lays each wish book in turn; a refused one is not laid.
 fn lay_all(ground: Ground, wishes: &[&str]) -> Result<String, Failure> {
     let heap = ground.heap;
-    let mut laid = [None; 3];
+    let mut laid = Vec::new(heap);
     let mut text = String::new(heap);
     for hex in wishes {
-        let pile = ground.pile(laid)?;
-        let book = wish_of(heap, hex)?;
+        let pile = ground.pile(laid.as_slice())?;
+        let book = wish_of(heap, hex).map_err(unreadable)?;
         match lay(pile, book).1 {
             Some(refusal) => {
-                let number = refusal.number().unwrap_or(0);
+                let number = refusal.number();
                 text.push_str(format!(in heap; "{number} ")?.as_str())?;
             }
             None => {
-                put(&mut laid, book);
+                laid.push(book)?;
                 text.push_str("ok ")?;
             }
         }
     }
-    let sizes = ground.pile(laid)?.sizes();
+    let sizes = ground.pile(laid.as_slice())?.sizes();
     text.push_str(format!(in heap; "{} {} {}", sizes.labels, sizes.bound, sizes.span)?.as_str())?;
     Ok(text)
-}
-
-// One book more, on top: in the first place that is free. With `find` the check doesn't see that the places are still the ones lent.
-fn put(books: &mut [Option<WishBook>; 3], book: WishBook) {
-    for place in books.iter_mut() {
-        if place.is_none() {
-            *place = Some(book);
-            return;
-        }
-    }
 }
 
 // `KIND HEX HEX ..`: a ground model, and wish books to be laid on it.
@@ -89,7 +85,7 @@ pub fn answer(heap: Global, words: &str) -> Result<String, Failure> {
     let bytes = unhex(heap, hex)?;
     let ground = Ground {
         heap,
-        kind,
+        kind: kind.parse().map_err(unreadable)?,
         bytes: bytes.as_slice(),
     };
     lay_all(ground, wishes)

@@ -3,11 +3,13 @@
 #![tactic(auto)]
 
 mod failure;
+mod kind;
 mod lay;
 
 ghost use Rattle.std.specs.Prelude.{◌<◌, IfOk};
 
 use failure::Failure;
+use kind::Kind;
 use model::SiteModel;
 use rulebook::read_rule;
 use sitebook::read_site;
@@ -39,12 +41,12 @@ fn answer(heap: Global, line: &str) -> Result<String, Failure> {
     if command == "lay" {
         return lay::answer(heap, rest);
     }
+    let kind: Kind = command.parse()?;
     let bytes = unhex(heap, rest)?;
-    match command {
-        "site" => site(heap, bytes.as_slice()),
-        "rule" => rule(heap, bytes.as_slice()),
-        "wish" => wish(heap, bytes.as_slice()),
-        _ => Err(Failure::Unknown),
+    match kind {
+        Kind::Site => site(heap, bytes.as_slice()),
+        Kind::Rule => rule(heap, bytes.as_slice()),
+        Kind::Wish => wish(heap, bytes.as_slice()),
     }
 }
 

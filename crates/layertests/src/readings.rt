@@ -1,7 +1,7 @@
 // Each row is a wish book and a record: at each position the label mask, and the wishes that hold there, worked out by hand from the
 // truth lines.
 use layer::{judge, remember, wish_bits};
-use refusal::Fault;
+use refusal::Unread;
 use std::alloc::Global;
 use std::test::Fail;
 use wishbook::{WishBook, read_wish};
@@ -15,16 +15,16 @@ static PREVIOUS: [u32; 4] = [0x10000000, 0x50000000, 0xA0010001, 0xF0000003];
 // "p0 since p1": p0 is not asked at the position at which p1 holds.
 static SINCE: [u32; 5] = [0x10000000, 0x10000001, 0x60000100, 0xA0010002, 0xF0000004];
 
-fn book_of(heap: Global, words: &[u32]) -> Result<WishBook, Fault> {
+fn book_of(heap: Global, words: &[u32]) -> Result<WishBook, Unread> {
     let mut bytes = Vec::new(heap);
     for word in words {
         bytes.extend_from_slice(&word.to_le_bytes())?;
     }
-    read_wish(bytes.as_slice())
+    Ok(read_wish(bytes.as_slice())?)
 }
 
 // Follows a record through the layer's memory, and compares the wish bits at each position.
-fn follow(heap: Global, words: &[u32], record: &[(u32, u32)]) -> Result<bool, Fault> {
+fn follow(heap: Global, words: &[u32], record: &[(u32, u32)]) -> Result<bool, Unread> {
     let book = book_of(heap, words)?;
     let mut memory = 0;
     for (mask, wanted) in record {

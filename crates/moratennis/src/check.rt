@@ -10,9 +10,9 @@ ghost use Rattle.words.specs.Format.{reading};
 use crate::show;
 use anyhow::anyhow;
 use model::Numbered;
-use refusal::Fault;
 use rulebook::read_rule;
 use sitebook::read_site;
+use std::fmt::Display;
 use std::fs;
 use std::process::ExitCode;
 use wishbook::{WishBook, read_wish};
@@ -28,9 +28,9 @@ pub fn run(rt: &HostRuntime, kind: &str, file: &str) -> anyhow::Result<ExitCode>
 }
 
 // Says what a book that was read holds, or why it is refused; the status says which.
-fn told<B: Drop, F: FnOnce(&B) -> anyhow::Result<()>>(
+fn told<B: Drop, E: Display + Drop, F: FnOnce(&B) -> anyhow::Result<()>>(
     rt: &HostRuntime,
-    read: Result<B, Fault>,
+    read: Result<B, E>,
     show: F,
 ) -> anyhow::Result<ExitCode>
     requires { F.IsAlwaysCallable show }
@@ -41,8 +41,8 @@ fn told<B: Drop, F: FnOnce(&B) -> anyhow::Result<()>>(
             show(&book)?;
             Ok(ExitCode::SUCCESS)
         }
-        Err(fault) => {
-            println!(rt; "{fault}")?;
+        Err(why) => {
+            println!(rt; "{why}")?;
             Ok(ExitCode::FAILURE)
         }
     }

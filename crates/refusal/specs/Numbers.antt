@@ -1,34 +1,33 @@
--- The number of each refusal, as the books of rules give it. Want of memory is no refusal of the book, and has none.
-use Rattle.std.specs.Prelude.{◌≡◌, ℕ, List, Some, None, codes, Option}
+-- The number of each refusal, as the books of rules give it. Want of memory is no refusal of the book, and is not among them.
+use Rattle.std.specs.Prelude.{◌≡◌, ℕ, List, codes}
 use Rattle.refusal.specs.declared.Refusal.{Refusal}
-use Rattle.refusal.specs.declared.Refusal.TheVariants.{CutOff, WrongKind, UnusedBit, OutOfRange, WrongEnd, WrongTotal, NotRising, NoWait, SwitchTwice, TooManyItems, NoSuchLabel, BoundPassed, SpanPassed, TooManyStates, BookTableShort, HorizonTooLong, PlanTableShort, NotOffered, NoSuchOutcome, LastSlot, Memory}
+use Rattle.refusal.specs.declared.Refusal.TheVariants.{CutOff, WrongKind, UnusedBit, OutOfRange, WrongEnd, WrongTotal, NotRising, NoWait, SwitchTwice, TooManyItems, NoSuchLabel, BoundPassed, SpanPassed, TooManyStates, BookTableShort, HorizonTooLong, PlanTableShort, NotOffered, NoSuchOutcome, LastSlot}
 
-abbrev pub number : Refusal → Option ℕ
-number CutOff = Some 1
-number WrongKind = Some 2
-number UnusedBit = Some 3
-number OutOfRange = Some 4
-number WrongEnd = Some 5
-number WrongTotal = Some 6
-number NotRising = Some 7
-number NoWait = Some 8
-number SwitchTwice = Some 9
-number TooManyItems = Some 10
-number NoSuchLabel = Some 11
-number BoundPassed = Some 12
-number SpanPassed = Some 13
-number TooManyStates = Some 14
-number BookTableShort = Some 15
-number HorizonTooLong = Some 16
-number PlanTableShort = Some 17
-number NotOffered = Some 18
-number NoSuchOutcome = Some 19
-number LastSlot = Some 20
-number Memory = None
+abbrev pub number : Refusal → ℕ
+number CutOff = 1
+number WrongKind = 2
+number UnusedBit = 3
+number OutOfRange = 4
+number WrongEnd = 5
+number WrongTotal = 6
+number NotRising = 7
+number NoWait = 8
+number SwitchTwice = 9
+number TooManyItems = 10
+number NoSuchLabel = 11
+number BoundPassed = 12
+number SpanPassed = 13
+number TooManyStates = 14
+number BookTableShort = 15
+number HorizonTooLong = 16
+number PlanTableShort = 17
+number NotOffered = 18
+number NoSuchOutcome = 19
+number LastSlot = 20
 
 -- one number, one refusal
 abbrev pub Apart : Type 0
-Apart = (a b : Refusal) (n : ℕ) → number a ≡ Some n → number b ≡ Some n → a ≡ b
+Apart = (a b : Refusal) → number a ≡ number b → a ≡ b
 
 -- what a person is told
 abbrev pub sentence : Refusal → List ℕ
@@ -52,4 +51,3 @@ sentence PlanTableShort = codes "a plan table is too short"
 sentence NotOffered = codes "the action is not offered here"
 sentence NoSuchOutcome = codes "the open choice has no outcome of this number"
 sentence LastSlot = codes "slot 12 is the last, and nothing can be chosen in it"
-sentence Memory = codes "there is not enough memory"

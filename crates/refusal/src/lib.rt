@@ -1,9 +1,9 @@
-// The refusals: each has a number and a sentence for people. Want of memory is one more case, with no number.
+// The refusals: each has a number and a sentence for people. Want of memory is none of them, and has a case of its own beside them.
 
 #![tactic(auto)]
 
 ghost use Rattle.std.specs.Prelude.{◌≡◌};
-ghost use Rattle.refusal.specs.declared.Refusal.TheVariants.{Memory};
+ghost use Rattle.refusal.specs.declared.Unread.TheVariants as unread;
 ghost use Rattle.refusal.specs.Numbers.{number as number_of, Apart, sentence as sentence_of};
 
 use std::alloc::AllocError;
@@ -32,7 +32,6 @@ pub enum Refusal {
     NotOffered = 18,
     NoSuchOutcome = 19,
     LastSlot = 20,
-    Memory = 0,
 }
 
 // A refusal and the place of the word that it is about, counted from 0.
@@ -42,16 +41,20 @@ pub struct Fault {
     pub place: usize,
 }
 
+// Why a book is not read: its file is refused, or there is not enough memory for it.
+#[derive(Debug, Drop)]
+pub enum Unread {
+    Refused(Fault),
+    Memory(AllocError),
+}
+
 impl Refusal {
     // The number that people know the refusal by.
-    pub fn number(&self) -> Option<u8>
+    pub fn number(&self) -> u8
         ensures number { result ≡ number_of self.now }
         ensures apart { Apart }
     {
-        match self {
-            Refusal::Memory => None,
-            numbered => Some(*numbered as u8),
-        }
+        *self as u8
     }
 
     // The refusal of the word at a place.
@@ -64,7 +67,7 @@ impl Refusal {
         }
     }
 
-    // What to tell a person.
+    // What to tell a person. A contract can speak of this text, and of what `Display` prints none can.
     pub fn sentence(&self) -> &'static str
         ensures { result.now ≡ sentence_of self.now }
     {
@@ -89,7 +92,6 @@ impl Refusal {
             Refusal::NotOffered => "the action is not offered here",
             Refusal::NoSuchOutcome => "the open choice has no outcome of this number",
             Refusal::LastSlot => "slot 12 is the last, and nothing can be chosen in it",
-            Refusal::Memory => "there is not enough memory",
         }
     }
 }
@@ -103,9 +105,16 @@ impl fmt::Display for Refusal {
 impl fmt::Display for Fault {
     fn fmt<W: fmt::Write>(&self, f: &mut fmt::Formatter<W>) -> fmt::Result {
         let Fault { refusal, place } = self;
-        match refusal.number() {
-            Some(number) => write!(f, "refused: {number} at word {place}: {refusal}"),
-            None => write!(f, "not read: {refusal}"),
+        let number = refusal.number();
+        write!(f, "refused: {number} at word {place}: {refusal}")
+    }
+}
+
+impl fmt::Display for Unread {
+    fn fmt<W: fmt::Write>(&self, f: &mut fmt::Formatter<W>) -> fmt::Result {
+        match self {
+            Unread::Refused(fault) => write!(f, "{fault}"),
+            Unread::Memory(_) => f.write_str("not read: there is not enough memory"),
         }
     }
 }
@@ -114,11 +123,21 @@ impl Error for Refusal {}
 
 impl Error for Fault {}
 
-// Want of memory is a matter of no word.
-impl From<AllocError> for Fault {
-    ghost from_gives = { λ _ fault. fault ≡ record { refusal = Memory; place = 0 } };
+impl Error for Unread {}
 
-    fn from(_error: AllocError) -> Fault {
-        Refusal::Memory.at(0)
+impl From<Fault> for Unread {
+    ghost from_gives = { λ fault why. why ≡ unread.Refused fault };
+
+    fn from(fault: Fault) -> Unread {
+        Unread::Refused(fault)
+    }
+}
+
+// Want of memory is a matter of no word.
+impl From<AllocError> for Unread {
+    ghost from_gives = { λ error why. why ≡ unread.Memory error };
+
+    fn from(error: AllocError) -> Unread {
+        Unread::Memory(error)
     }
 }

@@ -5,21 +5,21 @@ ghost use Rattle.sitelayout.specs.Layout.{site_format, site_words};
 ghost use Rattle.sitelayout.specs.Site.{Site, valid};
 ghost use Rattle.siteverdict.specs.Counting.{Counted};
 ghost use Rattle.sitebook.specs.Contents.{contents};
-ghost use Rattle.sitebook.specs.Reading.{Refused};
+ghost use Rattle.sitebook.specs.Reading.{NotRead};
 ghost use Rattle.sitebook.specs.Storing.{held, book_of, Closable};
 
 use crate::book::SiteBook;
 use crate::store::Store;
-use refusal::Fault;
+use refusal::Unread;
 use sitelayout::Kind;
 use siteverdict::{Counts, verdict};
 use std::alloc::{AllocError, Global};
 use words::next_word;
 
-// The book that a file is, or the first refusal and its place; Memory only where the file is a book.
+// The book that a file is, or the first refusal and its place; want of memory only where the file is a book.
 #[tactic(auto, using(sitelayout::proofs::Way::site_faithful))]
-pub fn read_site(heap: Global, bytes: &[u8]) -> Result<SiteBook, Fault>
-    ensures reads { MatchResult result (λ b. reading site_format bytes.now ≡ got (contents b)) (λ f. Refused (reading site_format bytes.now) f) }
+pub fn read_site(heap: Global, bytes: &[u8]) -> Result<SiteBook, Unread>
+    ensures reads { MatchResult result (λ b. reading site_format bytes.now ≡ got (contents b)) (λ why. NotRead (reading site_format bytes.now) why) }
     ensures faithful { Faithful site_format (λ b. valid b ≡ true) site_words }
 {
     let counts = verdict(bytes)?;
