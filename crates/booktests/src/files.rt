@@ -8,6 +8,7 @@ use std::alloc::{AllocError, Global};
 use std::fmt::Display;
 use std::test::Fail;
 use wishbook::read_wish;
+use words::bytes_of;
 
 // A reader of books: why it refuses a file, if it does.
 pub trait Reader: Drop {
@@ -66,8 +67,20 @@ pub const ALL: usize = usize::MAX;
 // The first and the last unused bit of the word at a place.
 pub type UnusedBits = (usize, u32, u32);
 
-// The weights of eight outcomes; the answer.
-pub type Weighing = ([u32; 8], Answer);
+// The weights of eight outcomes, and the number of the refusal, which is about the last of them; 0 where there is none.
+static WEIGHTS: [([u32; 8], u8); 11] = [
+    ([1, 1, 1, 1, 1, 1, 1, 1], 0),
+    ([1, 1, 1, 1, 1, 1, 1, 2], 6),
+    ([2, 1, 1, 1, 1, 1, 1, 1], 6),
+    ([8, 1, 1, 1, 1, 1, 1, 1], 6),
+    ([1, 1, 1, 1, 1, 1, 1, 8], 6),
+    ([3, 3, 3, 3, 3, 3, 3, 3], 6),
+    ([5, 5, 5, 5, 5, 5, 5, 5], 6),
+    ([7, 7, 7, 7, 7, 7, 7, 7], 6),
+    ([8, 8, 8, 8, 8, 8, 8, 8], 6),
+    ([8, 8, 8, 8, 8, 8, 8, 9], 4),
+    ([1, 1, 1, 1, 1, 1, 1, 0], 4),
+];
 
 // The kinds that may come at a place.
 pub type MayCome = (usize, &'static [u32]);
@@ -82,14 +95,6 @@ pub fn same<D: Display + Drop>(got: Answer, expected: Answer, place: D) -> Resul
     } else {
         Err(Fail::new(format_args!("{place}: {got:?} and not {expected:?}")))
     }
-}
-
-pub fn bytes_of(heap: Global, words: &[u32]) -> Result<Vec<u8>, AllocError> {
-    let mut file = Vec::new(heap);
-    for word in words {
-        file.extend_from_slice(&word.to_le_bytes())?;
-    }
-    Ok(file)
 }
 
 // Writes the right end word.
@@ -160,9 +165,10 @@ impl<R: Reader> Bench<R> {
     }
 
     // Eight outcomes of given weights, from a place on: the word at weight 0, what each next one adds, and the weight's lowest bit.
-    pub fn weighings(&self, layout: (usize, u32, u32, u32), rows: &[Weighing]) -> Result<(), Fail> {
+    pub fn weighings(&self, layout: (usize, u32, u32, u32)) -> Result<(), Fail> {
         let (at, first, step, low) = layout;
-        for (weights, expected) in rows {
+        let last = at.saturating_add(7);
+        for (weights, number) in &WEIGHTS {
             let mut put = Vec::new(self.heap);
             let mut word = first;
             for weight in weights {
@@ -173,15 +179,24 @@ impl<R: Reader> Bench<R> {
             close(&mut words)?;
             self.words(
                 words.as_slice(),
-                *expected,
+                if *number == 0 {
+                    (0, 0)
+                } else {
+                    (*number, last)
+                },
                 format_args!("weights {weights:?}"),
             )?;
         }
         Ok(())
     }
 
+    pub fn bits_and_kinds(&self, bits: &[UnusedBits], kinds: &[MayCome]) -> Result<(), Fail> {
+        self.unused_bits(bits)?;
+        self.wrong_kinds(kinds)
+    }
+
     // Each unused bit alone is refused with 3.
-    pub fn unused_bits(&self, rows: &[UnusedBits]) -> Result<(), Fail> {
+    fn unused_bits(&self, rows: &[UnusedBits]) -> Result<(), Fail> {
         for (at, low, high) in rows {
             let at = *at;
             let word = self.base.get(at).copied().unwrap_or(0);
@@ -199,7 +214,7 @@ impl<R: Reader> Bench<R> {
     }
 
     // Each kind that may not come is refused with 2.
-    pub fn wrong_kinds(&self, rows: &[MayCome]) -> Result<(), Fail> {
+    fn wrong_kinds(&self, rows: &[MayCome]) -> Result<(), Fail> {
         for (at, kinds) in rows {
             let at = *at;
             let word = self.base.get(at).copied().unwrap_or(0) & 0x0FFFFFFF;
@@ -218,7 +233,8 @@ impl<R: Reader> Bench<R> {
         Ok(())
     }
 
-    // The base is accepted whole, and cut off after each of its bytes it is refused at the number of whole words.
+    // The base is accepted whole, and cut off after each of its bytes it is refused at the number of whole words. The lengths are
+    // counted, since they are what is tried.
     pub fn cuts(&self) -> Result<(), Fail> {
         let mut words = self.spliced(0, 0, &[])?;
         close(&mut words)?;

@@ -410,21 +410,6 @@ static ENDINGS: [Ending; 23] = [
     ("a word of ones for the end", (6, &[], 4), (5, 6)),
 ];
 
-// Weights of the eight outcomes.
-static WEIGHTS: [Weighing; 11] = [
-    ([1, 1, 1, 1, 1, 1, 1, 1], (0, 0)),
-    ([1, 1, 1, 1, 1, 1, 1, 2], (6, 9)),
-    ([2, 1, 1, 1, 1, 1, 1, 1], (6, 9)),
-    ([8, 1, 1, 1, 1, 1, 1, 1], (6, 9)),
-    ([1, 1, 1, 1, 1, 1, 1, 8], (6, 9)),
-    ([3, 3, 3, 3, 3, 3, 3, 3], (6, 9)),
-    ([5, 5, 5, 5, 5, 5, 5, 5], (6, 9)),
-    ([7, 7, 7, 7, 7, 7, 7, 7], (6, 9)),
-    ([8, 8, 8, 8, 8, 8, 8, 8], (6, 9)),
-    ([8, 8, 8, 8, 8, 8, 8, 9], (4, 9)),
-    ([1, 1, 1, 1, 1, 1, 1, 0], (4, 9)),
-];
-
 // Every bit that no field has, for each kind of word.
 static UNUSED: [UnusedBits; 6] = [
     (0, 18, 27),
@@ -457,15 +442,12 @@ fn fields(rt: HostRuntime) -> Result<(), Fail> {
     Bench::new(heap, Rule, &TEN)?.edits(&NEEDS)?;
     Bench::new(heap, Rule, &EIGHT)?.edits(&FULL)?;
     many.edits(&WIDTHS)?;
-    many.weighings((2, 0x80000000, 0, 20), &WEIGHTS)
+    many.weighings((2, 0x80000000, 0, 20))
 }
 
 #[test]
 fn bits_and_kinds(rt: HostRuntime) -> Result<(), Fail> {
-    let heap = rt.alloc();
-    let base = Bench::new(heap, Rule, &BASE)?;
-    base.unused_bits(&UNUSED)?;
-    base.wrong_kinds(&KINDS)
+    Bench::new(rt.alloc(), Rule, &BASE)?.bits_and_kinds(&UNUSED, &KINDS)
 }
 
 #[test]

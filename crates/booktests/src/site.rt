@@ -502,21 +502,6 @@ static ENDINGS: [Ending; 26] = [
     ("a word of ones for the end", (17, &[], 4), (5, 17)),
 ];
 
-// Weights of the eight outcomes.
-static WEIGHTS: [Weighing; 11] = [
-    ([1, 1, 1, 1, 1, 1, 1, 1], (0, 0)),
-    ([1, 1, 1, 1, 1, 1, 1, 2], (6, 25)),
-    ([2, 1, 1, 1, 1, 1, 1, 1], (6, 25)),
-    ([8, 1, 1, 1, 1, 1, 1, 1], (6, 25)),
-    ([1, 1, 1, 1, 1, 1, 1, 8], (6, 25)),
-    ([3, 3, 3, 3, 3, 3, 3, 3], (6, 25)),
-    ([5, 5, 5, 5, 5, 5, 5, 5], (6, 25)),
-    ([7, 7, 7, 7, 7, 7, 7, 7], (6, 25)),
-    ([8, 8, 8, 8, 8, 8, 8, 8], (6, 25)),
-    ([8, 8, 8, 8, 8, 8, 8, 9], (4, 25)),
-    ([1, 1, 1, 1, 1, 1, 1, 0], (4, 25)),
-];
-
 // Every bit that no field has, for each kind of word.
 static UNUSED: [UnusedBits; 10] = [
     (0, 22, 27),
@@ -606,15 +591,13 @@ fn fields(rt: HostRuntime) -> Result<(), Fail> {
     Bench::new(heap, Site(heap), &ONE)?.edits(&SMALL)?;
     Bench::new(heap, Site(heap), &ACTIONS)?.edits(&LAST_ACTION)?;
     crossing.edits(&WHOLES)?;
-    wide.weighings((18, 0x50000000, 1, 12), &WEIGHTS)
+    wide.weighings((18, 0x50000000, 1, 12))
 }
 
 #[test]
 fn bits_and_kinds(rt: HostRuntime) -> Result<(), Fail> {
     let heap = rt.alloc();
-    let crossing = Bench::new(heap, Site(heap), &CROSSING)?;
-    crossing.unused_bits(&UNUSED)?;
-    crossing.wrong_kinds(&KINDS)
+    Bench::new(heap, Site(heap), &CROSSING)?.bits_and_kinds(&UNUSED, &KINDS)
 }
 
 #[test]

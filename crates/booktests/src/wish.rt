@@ -449,10 +449,7 @@ fn fields(rt: HostRuntime) -> Result<(), Fail> {
 
 #[test]
 fn bits_and_kinds(rt: HostRuntime) -> Result<(), Fail> {
-    let heap = rt.alloc();
-    let base = Bench::new(heap, Wish, &BASE)?;
-    base.unused_bits(&UNUSED)?;
-    base.wrong_kinds(&KINDS)
+    Bench::new(rt.alloc(), Wish, &BASE)?.bits_and_kinds(&UNUSED, &KINDS)
 }
 
 #[test]

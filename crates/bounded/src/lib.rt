@@ -16,6 +16,7 @@ pub struct Bounded<T, const MOST: usize> {
     ghost fits: { len ≤ MOST },
 }
 
+// By hand: a derive is refused beside the ghost fields of a generic struct.
 impl<T: Copy, const MOST: usize> Copy for Bounded<T, MOST> {}
 
 impl<T: Copy, const MOST: usize> Clone for Bounded<T, MOST> {

@@ -22,13 +22,10 @@ impl<T: Copy + Default, const MOST: usize> Bounded<T, MOST> {
     pub fn from_slice(items: &[T]) -> Self
         ensures { listed result ≡ take MOST items.now }
     {
-        let mut all = Bounded::new();
-        for item in items {
-            if all.push(*item).is_err() {
-                return all;
-            }
-        }
-        all
+        let mut places = [T::default(); MOST];
+        let len = items.len().min(MOST);
+        places[..len].copy_from_slice(&items[..len]);
+        Bounded { places, len }
     }
 }
 
@@ -48,7 +45,7 @@ impl<T: Copy, const MOST: usize> Bounded<T, MOST> {
         self.as_slice().get(i).copied()
     }
 
-    // The items in order.
+    // The items in order. That they are few is said here, of `len` and of `*`: a caller's check reads contracts and no ghost field.
     pub fn as_slice(&self) -> &[T]
         ensures items { result.now ≡ listed self.now }
         ensures few { length result.now ≤ MOST }
@@ -71,7 +68,7 @@ impl<T: Copy, const MOST: usize> Bounded<T, MOST> {
         Ok(())
     }
 
-    // Puts another item in place of item `i`, if there is one.
+    // Puts another item in place of item `i`, if there is one. The contract of `get_mut` does not say what the list becomes.
     pub fn replace(&mut self, i: usize, item: T)
         ensures { listed self.new ≡ slice_set (listed self.old) i item }
     {

@@ -5,6 +5,7 @@ use refusal::Unread;
 use std::alloc::Global;
 use std::test::Fail;
 use wishbook::{WishBook, read_wish};
+use words::bytes_of;
 
 // "always p0" and "previous always p0": with one bit for both they would agree at position 0.
 static ALWAYS: [u32; 6] = [
@@ -16,11 +17,8 @@ static PREVIOUS: [u32; 4] = [0x10000000, 0x50000000, 0xA0010001, 0xF0000003];
 static SINCE: [u32; 5] = [0x10000000, 0x10000001, 0x60000100, 0xA0010002, 0xF0000004];
 
 fn book_of(heap: Global, words: &[u32]) -> Result<WishBook, Unread> {
-    let mut bytes = Vec::new(heap);
-    for word in words {
-        bytes.extend_from_slice(&word.to_le_bytes())?;
-    }
-    Ok(read_wish(bytes.as_slice())?)
+    let file = bytes_of(heap, words)?;
+    Ok(read_wish(file.as_slice())?)
 }
 
 // Follows a record through the layer's memory, and compares the wish bits at each position.

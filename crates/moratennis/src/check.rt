@@ -19,6 +19,7 @@ use wishbook::{WishBook, read_wish};
 
 pub fn run(rt: &HostRuntime, kind: &str, file: &str) -> anyhow::Result<ExitCode> {
     let bytes = fs::read(rt, file)?;
+    // A word of the command line, asked once: an enum of kinds would only be matched on a second time.
     match kind {
         "site" => site(rt, bytes.as_slice()),
         "rule" => rule(rt, bytes.as_slice()),
@@ -47,6 +48,8 @@ fn told<B: Drop, E: Display + Drop, F: FnOnce(&B) -> anyhow::Result<()>>(
         }
     }
 }
+
+// Each of the three answers for a format of its own, which its contract names.
 
 // Want of memory may refuse a good site book; a bad one never ends with 0.
 fn site(rt: &HostRuntime, bytes: &[u8]) -> anyhow::Result<ExitCode>

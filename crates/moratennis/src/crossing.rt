@@ -5,9 +5,9 @@ use ground::GroundBook;
 use model::{SiteModel, reachable_at};
 use pile::{Three, stack, start_of};
 use sitebook::read_site;
-use std::alloc::{AllocError, Global};
 use truth::shows;
 use wishbook::read_wish;
+use words::bytes_of;
 
 const SITE: [u32; 18] = [
     0x10084003, 0x20000000, 0x300007D0, 0x20000001, 0x300017D0, 0x20000003, 0x300027D0, 0x40010000,
@@ -22,15 +22,6 @@ const WISH: [u32; 6] = [
 // A crossing with two trains on the bridge at once: the second comes on in slot 2, before the first has left. Each step is an action
 // and the number of its outcome.
 const STEPS: [(u32, usize); 5] = [(0, 1), (0, 0), (1, 0), (0, 0), (0, 0)];
-
-// The bytes of words, lowest first.
-fn bytes_of(heap: Global, words: &[u32]) -> Result<Vec<u8>, AllocError> {
-    let mut bytes = Vec::new(heap);
-    for word in words {
-        bytes.extend_from_slice(&word.to_le_bytes())?;
-    }
-    Ok(bytes)
-}
 
 // Reads both books, lays the wish on the site, and follows a crossing.
 pub fn run(rt: &HostRuntime) -> anyhow::Result<()> {
@@ -72,7 +63,8 @@ fn slot(
     state: u64,
 ) -> anyhow::Result<()> {
     let site = pile.ground(state);
-    let memory = state % 65536;
+    // The wish lies on the lowest floor.
+    let memory = pile.below().below().memory_of(state).unwrap_or(0);
     let reward = pile.reward(state);
     let holds = if shows(pile.mask(state), 2) {
         "holds"

@@ -9,7 +9,8 @@ pub(crate) const BUCKETS: usize = 7919;
 pub(crate) const CHAINED: usize = 4096;
 
 // For each bucket `heads` has one more than its last place, and for each place `earlier` has one more than the place before it in its
-// bucket; 0 stands where there is none.
+// bucket; 0 stands where there is none: an `Option<u16>` takes twice the room, and all of this is wiped for each register. The chains
+// are places in two tables, since a register has no heap.
 #[derive(Clone, Copy)]
 pub(crate) struct Chains {
     pub(crate) heads: [u16; BUCKETS],
@@ -29,7 +30,7 @@ impl Chains {
         }
     }
 
-    // One place more, unless all are chained.
+    // One place more, unless all are chained. The contract of `get_mut` does not say what a table becomes.
     pub(crate) fn link(&mut self, place: usize, bucket: usize)
         requires { bucket < 7919 }
         ensures linked { (bs : List ℕ) → place < 4096 → place < length bs → Chained self.old.heads self.old.earlier bs place → Chained self.new.heads self.new.earlier (slice_set bs place bucket) (place + 1) }

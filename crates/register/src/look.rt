@@ -47,7 +47,8 @@ impl<K: Key> Register<'_, K> {
         self.later_place(key)
     }
 
-    // Where it stands among the chained places: the search goes back through its bucket.
+    // Where it stands among the chained places: the search goes back through its bucket. It is a `while`,
+    // since `find` asks for an iterator that ends, and none of `successors` is known to.
     fn chained_place(&self, key: &K) -> Option<usize>
         ensures { Found (listed self.now) key.now 0 (min self.now.len 4096) result }
     {

@@ -1,9 +1,10 @@
 -- What a draft's answer to a word says of the word, and so of reading on.
-use Rattle.std.proofs.Common.{◌≡◌, ℕ, ◌+◌, ◌≤◌, List, length, drop, Ok, Err, refl, ap, ◌∙◌, rules}
+use Rattle.std.proofs.Common.{◌≡◌, ℕ, ◌+◌, ◌≤◌, List, length, drop, Ok, Err, Result, is_ok, false, refl, ap, ◌∙◌, rules}
 use Rattle.refusal.specs.declared.Refusal.{Refusal}
 use Rattle.words.specs.Words.{first_word}
 use Rattle.words.specs.Format.{Step, wrong, more, ends, stop, Format, ending, is_nil, run}
 use Rattle.words.specs.Drafts.{Stepped}
+use Rattle.words.specs.declared.reader.Turn.{Turn}
 use Rattle.words.specs.declared.reader.Turn.TheVariants.{More, End}
 use Rattle.words.proofs.Reading.{after, run_word}
 
@@ -33,5 +34,9 @@ module _ {X S : Type 0} (Follows : X → S → Type 0) where
     pub reads_end : (x : X) → Stepped Follows s (f.step s w) x (Ok End) → Follows x s × (run f s p bytes ≡ ending (f.finish s) p w (is_nil rest))
     reads_end x h = let m = says_end s (f.step s w) x h in (m.1, runs ∙ ap (after f s p w rest) m.0)
 
-    pub reads_wrong : (x : X) (r : Refusal) → Stepped Follows s (f.step s w) x (Err r) → run f s p bytes ≡ stop r p
+    reads_wrong : (x : X) (r : Refusal) → Stepped Follows s (f.step s w) x (Err r) → run f s p bytes ≡ stop r p
     reads_wrong x r h = runs ∙ ap (after f s p w rest) (says_wrong s (f.step s w) x r h)
+
+    pub reads_refused : (x : X) (answer : Result Turn Refusal) → Stepped Follows s (f.step s w) x answer → is_ok answer ≡ false → (r : Refusal) × ((answer ≡ Err r) × (run f s p bytes ≡ stop r p))
+    reads_refused x (Ok t) h e = search rules
+    reads_refused x (Err r) h e = (r, (refl, reads_wrong x r h))

@@ -8,8 +8,10 @@ ghost use Rattle.words.specs.Words.{first_word, field as field_of};
 
 use refusal::Refusal;
 
+mod bytes;
 mod reader;
 
+pub use bytes::bytes_of;
 pub use reader::{Draft, Turn, read};
 
 // The next word and what follows it; None where fewer than four bytes are left.
@@ -51,6 +53,7 @@ pub fn is_last(word: u32, place: usize, rest: &[u8]) -> bool
     word as usize % (1 << 28) == place && rest.is_empty()
 }
 
+// The kind is a number here: three formats have each an enum of their own, and a trait over them would be a second name for `as u32`.
 // A word of this kind, whose fields are its lowest `width` bits: any other kind is refused, and then a bit above them.
 pub fn open(word: u32, kind: u32, width: u32) -> Result<(), Refusal>
     ensures { result ≡ opened kind width word }

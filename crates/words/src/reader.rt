@@ -53,10 +53,9 @@ pub fn read<D: Draft>(bytes: &[u8]) -> Result<D::Book, Fault>
         let Some((word, next)) = next_word(rest) else {
             return Err(Refusal::CutOff.at(place));
         };
-        match draft.step(word) {
-            Ok(Turn::More) => {}
-            Ok(Turn::End) => return ended(draft, word, place, next),
-            Err(refusal) => return Err(refusal.at(place)),
+        match draft.step(word).map_err(|refusal| refusal.at(place))? {
+            Turn::More => {}
+            Turn::End => return ended(draft, word, place, next),
         }
         rest = next;
         place += 1;

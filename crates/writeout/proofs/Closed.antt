@@ -2,10 +2,10 @@
 -- `place_one` of the place of a listed code.
 use Rattle.std.proofs.Common.{◌≡◌, ℕ, ◌<◌, ◌≤◌, true, eqb, List, length, get_or, sym, refl, ap, ◌∙◌, ⊎_elim, arith}
 use Rattle.std.specs.List.{ContainsAt as Has}
-use Rattle.std.proofs.lemmas.Bool.{cases_lt, eq-eqb, eqb-true}
+use Rattle.std.proofs.lemmas.Bool.{cases_lt}
 use Rattle.model.specs.declared.Outcome.{Outcome}
 use Rattle.model.specs.Models.{Model}
-use Rattle.register.specs.Keys.{Decides, Distinct, place_of}
+use Rattle.register.specs.Keys.{number_decides, Distinct, place_of}
 use Rattle.register.proofs.Keys.{place_of_at, place_of_before}
 use Rattle.reach.specs.Reached.{Reached}
 
@@ -19,20 +19,17 @@ pub record Closed (m : Model) (codes : List ℕ) : Type 0 where
   pub few : length codes ≤ 4096
   pub first : get_or codes 0 0 ≡ m.start
 
-pub eqb_decides : Decides eqb
-eqb_decides = record { only = eqb-true; self = λ x. eq-eqb x x refl }
-
 -- a listed code has a place
 pub place_below : (codes : List ℕ) (c : ℕ) → Has codes c → place_of eqb c codes < length codes
 place_below codes c has =
     ⊎_elim
     (λ (h : place_of eqb c codes < length codes). h)
-    (λ (h : length codes ≤ place_of eqb c codes). absurd (place_of_before eqb eqb_decides c codes has.0 0 (omega (arith, has.1)) (has.2 0)))
+    (λ (h : length codes ≤ place_of eqb c codes). absurd (place_of_before eqb number_decides c codes has.0 0 (omega (arith, has.1)) (has.2 0)))
     (cases_lt (place_of eqb c codes) (length codes))
 
 -- and stands there
 pub place_code : (codes : List ℕ) (c : ℕ) → Has codes c → get_or codes (place_of eqb c codes) 0 ≡ c
-place_code codes c has = place_of_at eqb eqb_decides c codes 0 (place_below codes c has)
+place_code codes c has = place_of_at eqb number_decides c codes 0 (place_below codes c has)
 
 -- so that different codes have different places
 pub place_one : (codes : List ℕ) (c d : ℕ) → Has codes c → Has codes d → place_of eqb c codes ≡ place_of eqb d codes → c ≡ d
