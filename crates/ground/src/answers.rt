@@ -9,7 +9,7 @@ ghost use Rattle.ground.specs.declared.GroundBook.TheVariants.{Site, Rule};
 use crate::GroundBook;
 use model::{GroundModel, Numbered, Outcomes, SiteModel, Sizes};
 
-// What either book answers.
+// What either book answers. A trait's methods are handed on one by one: there is no delegation, and a function may hand out no `dyn`.
 macro_rules! for_both {
     ($ground:expr, $book:ident => $answer:expr) => {
         match $ground {

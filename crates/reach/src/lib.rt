@@ -35,6 +35,8 @@ pub fn search<M: SiteModel>(m: &M, codes: &mut Register<u64>) -> Result<(), Refu
     Ok(())
 }
 
+// What is added is each function's own to say; that it is added to the same list, all three say.
+
 // Adds the unlisted targets of a state, actions rising.
 fn add_targets<M: SiteModel>(m: &M, state: u64, codes: &mut Register<u64>) -> Result<(), Refusal>
     ensures added { Added (leads_to (M.SiteModel.meaning m.now) state) codes.old codes.new result }

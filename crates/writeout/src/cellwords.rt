@@ -30,7 +30,8 @@ fn entry_word(place: u16, action: u8, outcomes: u8) -> u32
 }
 
 impl<M: SiteModel> Listing<'_, '_, M> {
-    // Where a code stands among the listed ones.
+    // Where a code stands among the listed ones. One that is not listed has the number after the last, in the definition too: the targets of
+    // listed states are listed, so an `Option` would be opened by an arm that never comes.
     fn place_of(&self, code: u64) -> u16
         ensures { result ≡ place_of nat_eq code (listed self.now.codes.now) }
     {

@@ -33,7 +33,8 @@ impl<M: SiteModel> Listing<'_, '_, M> {
     }
 }
 
-// As `write_out`, from a code table that is all 0; a refusal leaves anything in the tables.
+// As `write_out`, from a code table that is all 0; a refusal leaves anything in the tables. Both are lent by the caller, who keeps them, so
+// no struct holds them.
 fn attempt<M: SiteModel>(m: &M, codes: &mut [u64], bytes: &mut [u8]) -> Result<Written, Refusal>
     requires { codes.old ≡ replicate (length codes.old) 0 }
     ensures answer { result ≡ outcome (M.SiteModel.meaning m.now) (length codes.old) (length bytes.old) }
