@@ -57,7 +57,7 @@ pub fn read_head(word: u32) -> Result<Head, Refusal>
     let states = field(word, 0, 13);
     let labels = field(word, 13, 5);
     let actions = field(word, 18, 4);
-    if states < 1 || states > 4096 || labels > 24 || actions < 1 || actions > 8 {
+    if !(1..=4096).contains(&states) || labels > 24 || !(1..=8).contains(&actions) {
         return Err(Refusal::OutOfRange);
     }
     Ok(Head {
@@ -99,7 +99,7 @@ pub fn read_entry(word: u32, states: u32, actions: u32) -> Result<Entry, Refusal
     let state = field(word, 0, 12);
     let action = field(word, 12, 3);
     let outcomes = field(word, 15, 4);
-    if state >= states || action >= actions || outcomes < 1 || outcomes > 8 {
+    if state >= states || action >= actions || !(1..=8).contains(&outcomes) {
         return Err(Refusal::OutOfRange);
     }
     Ok(Entry {
@@ -115,7 +115,7 @@ pub fn read_move(word: u32, states: u32) -> Result<Move, Refusal>
     open(word, Kind::Move as u32, 16)?;
     let target = field(word, 0, 12);
     let weight = field(word, 12, 4);
-    if target >= states || weight < 1 || weight > 8 {
+    if target >= states || !(1..=8).contains(&weight) {
         return Err(Refusal::OutOfRange);
     }
     Ok(Move {
