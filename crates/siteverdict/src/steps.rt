@@ -36,6 +36,7 @@ impl Draft for State {
         State::Fresh
     }
 
+    // A match on what is due: the same word means different things by it, which closures or a table of steps would say no plainer.
     fn step(&mut self, word: u32) -> Result<Turn, Refusal> {
         *self = match *self {
             State::Fresh => State::Mask(Marks::head(word)?),
@@ -115,6 +116,7 @@ impl Table {
             return Err(Refusal::NotRising);
         }
         Ok(Open {
+            // Written out: the kit takes no `..self` in a literal of a struct with ghost fields.
             table: Table {
                 counts: self.counts,
                 cells: place,
