@@ -19,7 +19,7 @@ origin_below : (b : Site) → valid b ≡ true → (s : ℕ) → origin_of b s <
 origin_below b v s =
     ⊎_elim
     (λ (l : s < length b.marks). (mark_parts b.labels (mark_at b s) (all_at (good_mark b.labels) b.marks s blank (validly b v).marks l)).2)
-    (λ (l : length b.marks ≤ s). omega (arith, ap (λ (m : Mark). m.origin) (past_blank b s l)))
+    (λ (l : length b.marks ≤ s). omega (arith, ap (λ (m : Mark). m.worth.origin) (past_blank b s l)))
     (cases_lt s (length b.marks))
 
 pub origin_lawful : (b : Site) → valid b ≡ true → Lawful (by_origin b)
@@ -45,7 +45,7 @@ origin_lawful b v =
       grounded = origin_below b v;
       no_mask = law.no_mask;
       no_reward = law.no_reward;
-      no_ground = λ s e. ap (λ (m : Mark). m.origin) (past_blank b s (ltb-false s (length b.marks) e));
+      no_ground = λ s e. ap (λ (m : Mark). m.worth.origin) (past_blank b s (ltb-false s (length b.marks) e));
       silent = law.silent;
     }
 

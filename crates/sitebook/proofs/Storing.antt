@@ -123,18 +123,18 @@ stores_step h (marking head ms None) e w of is =
           (record { labels = of.labels; actions = of.actions; marks = of.marks; starts = of.starts; moves = of.moves }, s.3)),
     )
 stores_step h (marking head ms (Some k)) e w of is =
-    let said = onto_more (reward_of w) (λ r. more (marked head (ms ++ (record { mask = k; raised = r.raised; origin = r.origin } ∷ [])))) e is in
+    let said = onto_more (reward_of w) (λ r. more (marked head (ms ++ (record { mask = k; worth = r } ∷ [])))) e is in
     let s = reward_fields w said.0 said.1.0 in
     let kept = of.0 in
-    let mark : ◌≡◌ {A = Mark} (record { mask = h.mask; raised = field w 0 12; origin = field w 12 12 }) (record { mask = k; raised = said.0.raised; origin = said.0.origin }) =
-    ap {B = Mark} (λ (n : ℕ). record { mask = n; raised = field w 0 12; origin = field w 12 12 }) of.1 ∙ ap {B = Mark} (λ (r : Worth). record { mask = k; raised = r.raised; origin = r.origin }) s.3 in (
+    let mark : ◌≡◌ {A = Mark} (record { mask = h.mask; worth = record { raised = field w 0 12; origin = field w 12 12 } }) (record { mask = k; worth = said.0 }) =
+    ap {B = Mark} (λ (n : ℕ). record { mask = n; worth = record { raised = field w 0 12; origin = field w 12 12 } }) of.1 ∙ ap {B = Mark} (λ (r : Worth). record { mask = k; worth = r }) s.3 in (
       omega (arith, s.0),
       subst (λ n. Stores (put_as n h w) e) (sym (ap numbered s.0)) (subst (Stores (with_mark h w)) (same_more said.1.1)
-          (stores_marked (with_mark h w) head (ms ++ (record { mask = k; raised = said.0.raised; origin = said.0.origin } ∷ []))
+          (stores_marked (with_mark h w) head (ms ++ (record { mask = k; worth = said.0 } ∷ []))
           (record {
             labels = kept.labels;
             actions = kept.actions;
-            marks = ap (λ (l : List Mark). l ++ (record { mask = h.mask; raised = field w 0 12; origin = field w 12 12 } ∷ [])) kept.marks ∙ ap (λ (m : Mark). ms ++ (m ∷ [])) mark;
+            marks = ap (λ (l : List Mark). l ++ (record { mask = h.mask; worth = record { raised = field w 0 12; origin = field w 12 12 } } ∷ [])) kept.marks ∙ ap (λ (m : Mark). ms ++ (m ∷ [])) mark;
             starts = kept.starts;
             moves = kept.moves;
           }))),

@@ -25,7 +25,7 @@ reward_size raised =
       | inr t ↦ let h = ltb-false raised 2000 t in ap (λ b. unsigned_abs (cond b (negsuc (2000 - suc raised)) (pos (raised - 2000)))) t ∙ omega arith
     ]
 
-bound_at : (ms : List Mark) (s : ℕ) → size (get_or ms s blank).raised ≤ bound_of ms
+bound_at : (ms : List Mark) (s : ℕ) → size (get_or ms s blank).worth.raised ≤ bound_of ms
 bound_at [] s = omega arith
 bound_at (m ∷ ms) zero = omega arith
 bound_at (m ∷ ms) (suc s) = omega (arith, bound_at ms s)
@@ -142,11 +142,11 @@ module _ (b : Site) (v : valid b ≡ true) where
     whole = λ s a e. total_outcomes (cell_at b s a) ∙ (cell s a).whole (not-true (none (cell_at b s a)) e);
     labelled = labelled_law;
     narrow = p.labels;
-    bounded = λ s. omega (arith, reward_size (mark_at b s).raised, bound_at b.marks s);
+    bounded = λ s. omega (arith, reward_size (mark_at b s).worth.raised, bound_at b.marks s);
     modest = bound_modest b.labels b.marks p.marks;
     grounded = grounded_law;
     no_mask = λ s e. ap (λ (m : Mark). m.mask) (get_or_past b.marks s blank (ltb-false s (length b.marks) e));
-    no_reward = λ s e. ap (λ (m : Mark). pos m.raised -ℤ pos 2000) (get_or_past b.marks s blank (ltb-false s (length b.marks) e));
+    no_reward = λ s e. ap (λ (m : Mark). pos m.worth.raised -ℤ pos 2000) (get_or_past b.marks s blank (ltb-false s (length b.marks) e));
     no_ground = λ s e. cond-false _ s 0 e;
     silent = λ s a e. none_nil (cell_at b s a) (not-false (none (cell_at b s a)) e);
   }

@@ -11,7 +11,7 @@ use Rattle.siteverdict.specs.Counting.{bound_of}
 
 -- no label, no reward, origin 0
 abbrev pub blank : Mark
-blank = record { mask = 0; raised = 2000; origin = 0 }
+blank = record { mask = 0; worth = record { raised = 2000; origin = 0 } }
 
 abbrev pub mark_at : Site → ℕ → Mark
 mark_at b s = slice_index_or b.marks s blank
@@ -25,14 +25,14 @@ outcome_of m = record { target = m.target; weight = m.weight }
 
 -- the origin that a state carries, 0 for any other number
 abbrev pub origin_of : Site → ℕ → ℕ
-origin_of b s = (mark_at b s).origin
+origin_of b s = (mark_at b s).worth.origin
 
 abbrev pub site_model : Site → Model
 site_model b = record {
   start = 0;
   state = λ s. nat_lt s (length b.marks);
   mask = λ s. (mark_at b s).mask;
-  reward = λ s. pos (mark_at b s).raised -ℤ pos 2000;
+  reward = λ s. pos (mark_at b s).worth.raised -ℤ pos 2000;
   site = λ s. cond (nat_lt s (length b.marks)) s 0;
   offered = λ s a. not (none (cell_at b s a));
   outcomes = λ s a. map outcome_of (cell_at b s a);

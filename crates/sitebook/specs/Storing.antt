@@ -41,7 +41,7 @@ abbrev pub with_mask : Held → ℕ → Held
 with_mask h w = record { labels = h.labels; actions = h.actions; mask = field w 0 24; marks = h.marks; starts = h.starts; moves = h.moves }
 
 abbrev pub with_mark : Held → ℕ → Held
-with_mark h w = record { labels = h.labels; actions = h.actions; mask = h.mask; marks = h.marks ++ (record { mask = h.mask; raised = field w 0 12; origin = field w 12 12 } ∷ []); starts = h.starts; moves = h.moves }
+with_mark h w = record { labels = h.labels; actions = h.actions; mask = h.mask; marks = h.marks ++ (record { mask = h.mask; worth = record { raised = field w 0 12; origin = field w 12 12 } } ∷ []); starts = h.starts; moves = h.moves }
 
 -- every cell below n has begun
 abbrev pub begun : ℕ → Held → Held

@@ -2,7 +2,7 @@
 ghost use Rattle.std.specs.Prelude.{◌≡◌, IfOk, OnOk};
 ghost use Rattle.sitebook.specs.Storing.{held, nothing, begun, put_of};
 
-use sitelayout::{Kind, Mark, Move};
+use sitelayout::{Kind, Mark, Move, Worth};
 use siteverdict::Counts;
 use std::alloc::{AllocError, Global};
 use words::field;
@@ -48,8 +48,10 @@ impl Store {
             Ok(Kind::Mask) => self.mask = field(word, 0, 24),
             Ok(Kind::Reward) => self.marks.push(Mark {
                 mask: self.mask,
-                raised: field(word, 0, 12) as u16,
-                origin: field(word, 12, 12) as u16,
+                worth: Worth {
+                    raised: field(word, 0, 12) as u16,
+                    origin: field(word, 12, 12) as u16,
+                },
             })?,
             Ok(Kind::Entry) => {
                 let state = field(word, 0, 12) as usize;

@@ -55,9 +55,9 @@ Good (moving h ms cs mv due) =
 
 -- one more at the end
 
-mark_words_push : (ms : List Mark) (m : Mark) → mark_words (ms ++ (m ∷ [])) ≡ (mark_words ms ++ (word_of_mask m.mask ∷ [])) ++ (word_of_reward m.raised m.origin ∷ [])
+mark_words_push : (ms : List Mark) (m : Mark) → mark_words (ms ++ (m ∷ [])) ≡ (mark_words ms ++ (word_of_mask m.mask ∷ [])) ++ (word_of_reward m.worth.raised m.worth.origin ∷ [])
 mark_words_push [] m = refl
-mark_words_push (x ∷ ms) m = ap (λ l. word_of_mask x.mask ∷ (word_of_reward x.raised x.origin ∷ l)) (mark_words_push ms m)
+mark_words_push (x ∷ ms) m = ap (λ l. word_of_mask x.mask ∷ (word_of_reward x.worth.raised x.worth.origin ∷ l)) (mark_words_push ms m)
 
 move_words_push : (ms : List Move) (m : Move) → move_words (ms ++ (m ∷ [])) ≡ move_words ms ++ (word_of_move m ∷ [])
 move_words_push [] m = refl
@@ -128,21 +128,21 @@ more_is_no_end e = search rules
 abbrev Next : Draft → ℕ → Draft → Type 0
 Next d w t = Good t × (written t ≡ written d ++ (w ∷ []))
 
-mark_next : (h : Head) (ms : List Mark) (m w : ℕ) (r : Worth) → Good (marking h ms (Some m)) → reward_of w ≡ Ok r → Next (marking h ms (Some m)) w (marked h (ms ++ (record { mask = m; raised = r.raised; origin = r.origin } ∷ [])))
+mark_next : (h : Head) (ms : List Mark) (m w : ℕ) (r : Worth) → Good (marking h ms (Some m)) → reward_of w ≡ Ok r → Next (marking h ms (Some m)) w (marked h (ms ++ (record { mask = m; worth = r } ∷ [])))
 mark_next h ms m w r g said =
     let told = reward_reads w r said in
-    let mark : Mark = record { mask = m; raised = r.raised; origin = r.origin } in
-    let one : good_mark h.labels (record { mask = m; raised = r.raised; origin = r.origin }) ≡ true =
+    let mark : Mark = record { mask = m; worth = r } in
+    let one : good_mark h.labels (record { mask = m; worth = r }) ≡ true =
     and_from (ltb m (2 ^ h.labels)) (leb r.raised 4000 && ltb r.origin 4096) (lt-ltb m (2 ^ h.labels) g.1.1) (and_from (leb r.raised 4000) (ltb r.origin 4096) (le-leb r.raised 4000 told.1.0) (lt-ltb r.origin 4096 told.1.1)) in
-    let each = all_push (good_mark h.labels) ms (record { mask = m; raised = r.raised; origin = r.origin }) g.0.1 one in
-    let long = length_push ms (record { mask = m; raised = r.raised; origin = r.origin }) in
-    let line : head_words h ∷ mark_words (ms ++ (record { mask = m; raised = r.raised; origin = r.origin } ∷ [])) ≡ head_words h ∷ ((mark_words ms ++ (word_of_mask m ∷ [])) ++ (w ∷ [])) =
-    ap (λ l. head_words h ∷ l) (mark_words_push ms (record { mask = m; raised = r.raised; origin = r.origin }) ∙ ap (λ v. (mark_words ms ++ (word_of_mask m ∷ [])) ++ (v ∷ [])) (sym told.0)) in
-    elim (cases_Bool (ltb (length (ms ++ (record { mask = m; raised = r.raised; origin = r.origin } ∷ []))) h.states)) [
-      | inl t ↦ subst (λ b. Next (marking h ms (Some m)) w (cond b (marking h (ms ++ (record { mask = m; raised = r.raised; origin = r.origin } ∷ [])) None) (listing h (ms ++ (record { mask = m; raised = r.raised; origin = r.origin } ∷ [])) []))) (sym t)
+    let each = all_push (good_mark h.labels) ms (record { mask = m; worth = r }) g.0.1 one in
+    let long = length_push ms (record { mask = m; worth = r }) in
+    let line : head_words h ∷ mark_words (ms ++ (record { mask = m; worth = r } ∷ [])) ≡ head_words h ∷ ((mark_words ms ++ (word_of_mask m ∷ [])) ++ (w ∷ [])) =
+    ap (λ l. head_words h ∷ l) (mark_words_push ms (record { mask = m; worth = r }) ∙ ap (λ v. (mark_words ms ++ (word_of_mask m ∷ [])) ++ (v ∷ [])) (sym told.0)) in
+    elim (cases_Bool (ltb (length (ms ++ (record { mask = m; worth = r } ∷ []))) h.states)) [
+      | inl t ↦ subst (λ b. Next (marking h ms (Some m)) w (cond b (marking h (ms ++ (record { mask = m; worth = r } ∷ [])) None) (listing h (ms ++ (record { mask = m; worth = r } ∷ [])) []))) (sym t)
           (((g.0.0, each), (ltb-true _ _ t, tt)), line)
-      | inr t ↦ subst (λ b. Next (marking h ms (Some m)) w (cond b (marking h (ms ++ (record { mask = m; raised = r.raised; origin = r.origin } ∷ [])) None) (listing h (ms ++ (record { mask = m; raised = r.raised; origin = r.origin } ∷ [])) []))) (sym t)
-          (((g.0.0, each), (omega (arith, ltb-false _ _ t, g.1.0), (refl, omega arith))), ap (λ l. head_words h ∷ l) (append-nil (mark_words (ms ++ (record { mask = m; raised = r.raised; origin = r.origin } ∷ [])))) ∙ line)
+      | inr t ↦ subst (λ b. Next (marking h ms (Some m)) w (cond b (marking h (ms ++ (record { mask = m; worth = r } ∷ [])) None) (listing h (ms ++ (record { mask = m; worth = r } ∷ [])) []))) (sym t)
+          (((g.0.0, each), (omega (arith, ltb-false _ _ t, g.1.0), (refl, omega arith))), ap (λ l. head_words h ∷ l) (append-nil (mark_words (ms ++ (record { mask = m; worth = r } ∷ [])))) ∙ line)
     ]
 
 entry_next : (h : Head) (ms : List Mark) (cs : List (List Move)) (w : ℕ) (e : Entry) → Good (listing h ms cs) → entry_of h.states h.actions w ≡ Ok e → length cs ≤ place_of h e
@@ -227,7 +227,7 @@ word_kept (marking h ms None) t w g e =
     let told = mask_reads h.labels w got.0 got.1.0 in
     subst (Next (marking h ms None) w) (same_more got.1.1) ((g.0, (g.1.0, told.1)), ap (λ v. head_words h ∷ (mark_words ms ++ (v ∷ []))) (sym told.0))
 word_kept (marking h ms (Some m)) t w g e =
-    let got = onto_more (reward_of w) (λ r. more (marked h (ms ++ (record { mask = m; raised = r.raised; origin = r.origin } ∷ [])))) t e in
+    let got = onto_more (reward_of w) (λ r. more (marked h (ms ++ (record { mask = m; worth = r } ∷ [])))) t e in
     subst (Next (marking h ms (Some m)) w) (same_more got.1.1) (mark_next h ms m w got.0 g got.1.0)
 word_kept (listing h ms cs) t w g e =
     elim (cases_Bool (eqb (kind w) 15)) [
@@ -251,7 +251,7 @@ pub end_word_reads : (d : Draft) (w : ℕ) → read_word d w ≡ ends → kind w
 unfolding read_word
 end_word_reads fresh w e = absurd (more_is_no_end (onto_ends (head_of w) (λ h. more (marking h [] None)) e).1.1)
 end_word_reads (marking h ms None) w e = absurd (more_is_no_end (onto_ends (mask_of h.labels w) (λ m. more (marking h ms (Some m))) e).1.1)
-end_word_reads (marking h ms (Some m)) w e = absurd (more_is_no_end (onto_ends (reward_of w) (λ r. more (marked h (ms ++ (record { mask = m; raised = r.raised; origin = r.origin } ∷ [])))) e).1.1)
+end_word_reads (marking h ms (Some m)) w e = absurd (more_is_no_end (onto_ends (reward_of w) (λ r. more (marked h (ms ++ (record { mask = m; worth = r } ∷ [])))) e).1.1)
 end_word_reads (listing h ms cs) w e =
     elim (cases_Bool (eqb (kind w) 15)) [
       | inl is ↦ eqb-true (kind w) 15 is

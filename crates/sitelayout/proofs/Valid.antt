@@ -9,11 +9,11 @@ use Rattle.sitelayout.specs.declared.Move.{Move}
 use Rattle.sitelayout.specs.Site.{Site, apart, total, good_mark, good_move, good_cell, waits, valid}
 use Rattle.sitelayout.proofs.OneWords.{GoodOutcome}
 
-pub mark_parts : (labels : ℕ) (m : Mark) → good_mark labels m ≡ true → (m.mask < 2 ^ labels) × (m.raised ≤ 4000) × (m.origin < 4096)
+pub mark_parts : (labels : ℕ) (m : Mark) → good_mark labels m ≡ true → (m.mask < 2 ^ labels) × (m.worth.raised ≤ 4000) × (m.worth.origin < 4096)
 mark_parts labels m e =
-    let a = and_parts (ltb m.mask (2 ^ labels)) (leb m.raised 4000 && ltb m.origin 4096) e in
-    let b = and_parts (leb m.raised 4000) (ltb m.origin 4096) a.1 in
-    (ltb-true m.mask (2 ^ labels) a.0, leb-true m.raised 4000 b.0, ltb-true m.origin 4096 b.1)
+    let a = and_parts (ltb m.mask (2 ^ labels)) (leb m.worth.raised 4000 && ltb m.worth.origin 4096) e in
+    let b = and_parts (leb m.worth.raised 4000) (ltb m.worth.origin 4096) a.1 in
+    (ltb-true m.mask (2 ^ labels) a.0, leb-true m.worth.raised 4000 b.0, ltb-true m.worth.origin 4096 b.1)
 
 pub move_parts : (n : ℕ) (m : Move) → good_move n m ≡ true → GoodOutcome n m
 move_parts n m h =

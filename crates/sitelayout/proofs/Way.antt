@@ -103,10 +103,10 @@ module _ (h : Head) (g : GoodHead h) where
   unfolding read_word
   mask_step before m e = ap (λ s. onto s (λ x. more (marking h before (Some x)))) (mask_written h.labels m.mask (mark_parts h.labels m e).0 g.2)
 
-  reward_step : (before : List Mark) (m : Mark) → good_mark h.labels m ≡ true → read_word (marking h before (Some m.mask)) (word_of_reward m.raised m.origin) ≡ more (marked h (before ++ (m ∷ [])))
+  reward_step : (before : List Mark) (m : Mark) → good_mark h.labels m ≡ true → read_word (marking h before (Some m.mask)) (word_of_reward m.worth.raised m.worth.origin) ≡ more (marked h (before ++ (m ∷ [])))
   unfolding read_word
   reward_step before m e =
-      ap (λ s. onto s (λ r. more (marked h (before ++ (record { mask = m.mask; raised = r.raised; origin = r.origin } ∷ []))))) (reward_written m.raised m.origin (mark_parts h.labels m e).1 (mark_parts h.labels m e).2)
+      ap (λ s. onto s (λ r. more (marked h (before ++ (record { mask = m.mask; worth = r } ∷ []))))) (reward_written m.worth.raised m.worth.origin (mark_parts h.labels m e).1 (mark_parts h.labels m e).2)
 
   -- the states of a book lead to its entries
   way_marks : (before : List Mark) (m : Mark) (rest : List Mark) → all (good_mark h.labels) (m ∷ rest) ≡ true → length before + length (m ∷ rest) ≡ h.states

@@ -18,7 +18,7 @@ use Rattle.sitelayout.specs.Site.{Site, taken, total, waits}
 
 abbrev pub mark_words : List Mark → List ℕ
 mark_words [] = []
-mark_words (m ∷ ms) = word_of_mask m.mask ∷ (word_of_reward m.raised m.origin ∷ mark_words ms)
+mark_words (m ∷ ms) = word_of_mask m.mask ∷ (word_of_reward m.worth.raised m.worth.origin ∷ mark_words ms)
 
 abbrev pub move_words : List Move → List ℕ
 move_words [] = []
@@ -74,7 +74,7 @@ read_move h ms cs mv due m = check (not (taken m.target mv)) NotRising (moved h 
 unfoldable pub read_word : Draft → ℕ → Step Draft
 read_word fresh w = onto (head_of w) (λ h. more (marking h [] None))
 read_word (marking h ms None) w = onto (mask_of h.labels w) (λ m. more (marking h ms (Some m)))
-read_word (marking h ms (Some m)) w = onto (reward_of w) (λ r. more (marked h (ms ++ (record { mask = m; raised = r.raised; origin = r.origin } ∷ []))))
+read_word (marking h ms (Some m)) w = onto (reward_of w) (λ r. more (marked h (ms ++ (record { mask = m; worth = r } ∷ []))))
 read_word (listing h ms cs) w = cond (kind w == number_of End) ends (onto (entry_of h.states h.actions w) (read_entry h ms cs))
 read_word (moving h ms cs mv due) w = onto (move_of h.states w) (read_move h ms cs mv due)
 

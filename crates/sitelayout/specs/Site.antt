@@ -26,7 +26,7 @@ total [] = 0
 total (m ∷ ms) = m.weight + total ms
 
 abbrev pub good_mark : ℕ → Mark → Bool
-good_mark labels m = nat_lt m.mask (2 ^ labels) && (nat_le m.raised 4000 && nat_lt m.origin 4096)
+good_mark labels m = nat_lt m.mask (2 ^ labels) && (nat_le m.worth.raised 4000 && nat_lt m.worth.origin 4096)
 
 abbrev pub good_move : ℕ → Move → Bool
 good_move states m = nat_lt m.target states && within 1 8 m.weight

@@ -27,12 +27,11 @@ pub struct Worth {
     pub origin: u16,
 }
 
-// What a site book says of one state. `raised` is its reward plus 2,000.
+// What a site book says of one state.
 #[derive(Clone, Copy, Debug, PartialEq, Eq)]
 pub struct Mark {
     pub mask: u32,
-    pub raised: u16,
-    pub origin: u16,
+    pub worth: Worth,
 }
 
 // An entry: `outcomes` words follow that say what `action` in `state` may lead to.

@@ -31,11 +31,11 @@ module _ {X Y : Type 0} (At : X → Draft → Type 0) (said : Result Y Refusal) 
   leads_on y answer e h = subst (λ s. Leads At (onto s next) answer) (sym e) h
 
 module _ {X : Type 0} (At : X → Draft → Type 0) (h : Head) (ms : List Mark) (w : ℕ) (answer : Result X Refusal) where
-  pub reward_leads : (k : ℕ) (r : Worth) (d : Draft) → d ≡ marking h ms (Some k) → reward_of w ≡ Ok r → Leads At (more (marked h (ms ++ (record { mask = k; raised = r.raised; origin = r.origin } ∷ [])))) answer → Leads At (read_word d w) answer
+  pub reward_leads : (k : ℕ) (r : Worth) (d : Draft) → d ≡ marking h ms (Some k) → reward_of w ≡ Ok r → Leads At (more (marked h (ms ++ (record { mask = k; worth = r } ∷ [])))) answer → Leads At (read_word d w) answer
   unfolding read_word
   reward_leads k r d here said on =
       subst (λ x. Leads At (read_word x w) answer) (sym here)
-      (leads_on At (reward_of w) (λ r. more (marked h (ms ++ (record { mask = k; raised = r.raised; origin = r.origin } ∷ [])))) r answer said on)
+      (leads_on At (reward_of w) (λ r. more (marked h (ms ++ (record { mask = k; worth = r } ∷ [])))) r answer said on)
 
   module _ (cs : List (List Move)) where
     pub entry_leads : (e : Entry) (d : Draft) → d ≡ listing h ms cs → (kind w ≡ 15 → ⊥) → entry_of h.states h.actions w ≡ Ok e → Leads At (read_entry h ms cs e) answer → Leads At (read_word d w) answer
@@ -75,18 +75,18 @@ module _ {X : Type 0} (At : X → Draft → Type 0) (h : Head) (ms : List Mark) 
   moved_right answer (suc k) last eight on = absurd (omega arith)
 
 -- one state more
-pub mark_more : (h : Head) (n most top : ℕ) (ms : List Mark) (mark : Mark) → Marked h n most ms → n + 1 < h.states → top ≡ max most (size mark.raised) → (ns : List Mark) × ((marked h (ms ++ (mark ∷ [])) ≡ marking h ns None) × Marked h (n + 1) top ns)
+pub mark_more : (h : Head) (n most top : ℕ) (ms : List Mark) (mark : Mark) → Marked h n most ms → n + 1 < h.states → top ≡ max most (size mark.worth.raised) → (ns : List Mark) × ((marked h (ms ++ (mark ∷ [])) ≡ marking h ns None) × Marked h (n + 1) top ns)
 mark_more h n most top ms mark of room most_is =
     let long : length (ms ++ (mark ∷ [])) ≡ n + 1 = omega (arith, length_push ms mark, of.read) in (
       ms ++ (mark ∷ []),
       (
         ap (λ b. cond b (marking h (ms ++ (mark ∷ [])) None) (listing h (ms ++ (mark ∷ [])) [])) (lt-ltb (length (ms ++ (mark ∷ []))) h.states (omega arith)),
-        record { acts = of.acts; read = long; bound = bound-push ms mark ∙ ap (λ n. max n (size mark.raised)) of.bound ∙ sym most_is },
+        record { acts = of.acts; read = long; bound = bound-push ms mark ∙ ap (λ n. max n (size mark.worth.raised)) of.bound ∙ sym most_is },
       ),
     )
 
 -- the last one: no entry is read yet
-pub mark_last : (h : Head) (n most top : ℕ) (ms : List Mark) (mark : Mark) → Marked h n most ms → n < h.states → h.states ≤ n + 1 → top ≡ max most (size mark.raised)
+pub mark_last : (h : Head) (n most top : ℕ) (ms : List Mark) (mark : Mark) → Marked h n most ms → n < h.states → h.states ≤ n + 1 → top ≡ max most (size mark.worth.raised)
     → (ns : List Mark) × ((cs : List (List Move)) × ((marked h (ms ++ (mark ∷ [])) ≡ listing h ns cs) × Tabled (record { head = h; moves = 0; bound = top }) 0 0 ns cs))
 mark_last h n most top ms mark of room last most_is =
     let long : length (ms ++ (mark ∷ [])) ≡ h.states = omega (arith, length_push ms mark, of.read) in (
@@ -98,7 +98,7 @@ mark_last h n most top ms mark of room last most_is =
           record {
             acts = of.acts;
             read = long;
-            bound = bound-push ms mark ∙ ap (λ n. max n (size mark.raised)) of.bound ∙ sym most_is;
+            bound = bound-push ms mark ∙ ap (λ n. max n (size mark.worth.raised)) of.bound ∙ sym most_is;
             cells = refl;
             moves = refl;
             waiting = refl;

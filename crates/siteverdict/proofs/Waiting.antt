@@ -9,7 +9,7 @@ use Rattle.sitelayout.specs.declared.Move.{Move}
 use Rattle.sitelayout.specs.Site.{waits}
 use Rattle.siteverdict.specs.Counting.{size, bound_of, moves_in}
 
-pub bound-push : (ms : List Mark) (m : Mark) → bound_of (ms ++ (m ∷ [])) ≡ max (bound_of ms) (size m.raised)
+pub bound-push : (ms : List Mark) (m : Mark) → bound_of (ms ++ (m ∷ [])) ≡ max (bound_of ms) (size m.worth.raised)
 bound-push [] m = omega arith
 bound-push (x ∷ ms) m = omega (arith, bound-push ms m)
 

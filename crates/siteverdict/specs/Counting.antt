@@ -15,7 +15,7 @@ size raised = (raised - 2000) + (2000 - raised)
 -- the largest size of a reward
 abbrev pub bound_of : List Mark → ℕ
 bound_of [] = 0
-bound_of (m ∷ ms) = max (size m.raised) (bound_of ms)
+bound_of (m ∷ ms) = max (size m.worth.raised) (bound_of ms)
 
 -- how many outcomes there are in all
 abbrev pub moves_in : List (List Move) → ℕ

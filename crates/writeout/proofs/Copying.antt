@@ -73,8 +73,8 @@ module _ (m : Model) (law : Lawful m) (codes : List ℕ) (from : Closed m codes)
     actions = refl;
     start = from.first;
     masks = λ i h. ap (λ (k : Mark). k.mask) (mark_copied i h);
-    rewards = λ i h. ap (λ (k : Mark). pos k.raised -ℤ pos 2000) (mark_copied i h) ∙ reward_back (m.reward (get_or codes i 0)) (omega (arith, law.bounded (get_or codes i 0), law.modest));
-    origins = λ i h. ap (λ (k : Mark). k.origin) (mark_copied i h);
+    rewards = λ i h. ap (λ (k : Mark). pos k.worth.raised -ℤ pos 2000) (mark_copied i h) ∙ reward_back (m.reward (get_or codes i 0)) (omega (arith, law.bounded (get_or codes i 0), law.modest));
+    origins = λ i h. ap (λ (k : Mark). k.worth.origin) (mark_copied i h);
     offers = λ i a h. ap (λ (c : List Move). not (none c)) (book_cell i a h) ∙ cell_offers (get_or codes i 0) a;
     moves = λ i a h. ap (λ c. map (meant codes) (map outcome_of c)) (book_cell i a h) ∙ moves_back codes (m.outcomes (get_or codes i 0) a) (λ j d l. from.targets (get_or codes i 0) a j d (has_get_or codes i 0 h) l);
   }

@@ -59,7 +59,7 @@ module _ (m : Model) (law : Lawful m) (codes : List ℕ) (from : Closed m codes)
   mark_good : (c : ℕ) → good_mark m.labels (mark_of m c) ≡ true
   mark_good c =
       and_from _ _ (lt-ltb (m.mask c) (2 ^ m.labels) (law.labelled c))
-      (and_from _ _ (le-leb (mark_of m c).raised 4000 (raised_small (m.reward c) (omega (arith, law.bounded c, law.modest))))
+      (and_from _ _ (le-leb (mark_of m c).worth.raised 4000 (raised_small (m.reward c) (omega (arith, law.bounded c, law.modest))))
       (lt-ltb (m.site c) 4096 (law.grounded c)))
 
   marks_good : (cs : List ℕ) → all (good_mark m.labels) (map (mark_of m) cs) ≡ true

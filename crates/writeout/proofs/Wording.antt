@@ -10,7 +10,7 @@ use Rattle.writeout.specs.Book.{mark_of, move_to, cell_of, cells_below, cells_of
 
 pub marks-append : (xs ys : List Mark) → mark_words (xs ++ ys) ≡ mark_words xs ++ mark_words ys
 marks-append [] ys = refl
-marks-append (x ∷ xs) ys = ap (λ l. word_of_mask x.mask ∷ (word_of_reward x.raised x.origin ∷ l)) (marks-append xs ys)
+marks-append (x ∷ xs) ys = ap (λ l. word_of_mask x.mask ∷ (word_of_reward x.worth.raised x.worth.origin ∷ l)) (marks-append xs ys)
 
 pub moves-append : (xs ys : List Move) → move_words (xs ++ ys) ≡ move_words xs ++ move_words ys
 moves-append [] ys = refl

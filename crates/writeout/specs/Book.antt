@@ -10,7 +10,7 @@ use Rattle.sitelayout.specs.Site.{Site}
 
 -- what is written of a state; the reward is raised by 2,000
 abbrev pub mark_of : Model → ℕ → Mark
-mark_of m c = record { mask = m.mask c; raised = unsigned_abs (m.reward c +ℤ pos 2000); origin = m.site c }
+mark_of m c = record { mask = m.mask c; worth = record { raised = unsigned_abs (m.reward c +ℤ pos 2000); origin = m.site c } }
 
 -- an outcome leads to the place of its target
 abbrev pub move_to : List ℕ → Outcome → Move

@@ -7,13 +7,15 @@ ghost use Rattle.sitebook.specs.Lawful.{site_lawful, site_ground, site_numbered}
 
 use crate::book::SiteBook;
 use model::{GroundModel, Numbered, Outcome, Outcomes, SiteModel, Sizes};
-use sitelayout::{Mark, Move};
+use sitelayout::{Mark, Move, Worth};
 
 // No label, no reward, origin 0.
 const BLANK: Mark = Mark {
     mask: 0,
-    raised: 2000,
-    origin: 0,
+    worth: Worth {
+        raised: 2000,
+        origin: 0,
+    },
 };
 
 impl SiteBook {
@@ -21,7 +23,7 @@ impl SiteBook {
     pub fn origin(&self, s: u64) -> u64
         ensures { result ≡ origin_of (contents self.now) s }
     {
-        self.mark(s).origin as u64
+        self.mark(s).worth.origin as u64
     }
 
     // What the book says of a state; any other number has no label, no reward and origin 0.
@@ -78,7 +80,7 @@ impl SiteModel for SiteBook {
     }
 
     fn reward(&self, s: u64) -> i32 {
-        self.mark(s).raised as i32 - 2000
+        self.mark(s).worth.raised as i32 - 2000
     }
 
     fn ground(&self, s: u64) -> u64 {
