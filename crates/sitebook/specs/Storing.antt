@@ -2,12 +2,12 @@
 -- The words are those of a file that is known to be a book, so that a word's kind says all that is needed.
 use Rattle.std.specs.Prelude.{◌≡◌, ℕ, ◌+◌, ◌-◌, ◌*◌, ◌<◌, ◌≤◌, true, List, [], ◌∷◌, ◌++◌, length, replicate, Ok, Err, Result, vec_items, slice_index}
 use Rattle.refusal.specs.declared.Refusal.{Refusal}
-use Rattle.words.specs.Words.{field}
 use Rattle.sitelayout.specs.declared.Mark.{Mark}
 use Rattle.sitelayout.specs.declared.Move.{Move}
 use Rattle.sitelayout.specs.declared.kind.Kind.{Kind}
 use Rattle.sitelayout.specs.declared.kind.Kind.TheVariants as kinds
 use Rattle.sitelayout.specs.Kinds.{kind_of}
+use Rattle.sitelayout.specs.OneWord.{head_in, mask_in, worth_in, entry_in, move_in}
 use Rattle.sitelayout.specs.Site.{Site, valid}
 use Rattle.siteverdict.specs.declared.Counts.{Counts}
 use Rattle.siteverdict.specs.Counting.{bound_of}
@@ -34,14 +34,14 @@ filled n x xs = xs ++ replicate (n - length xs) x
 
 -- the head
 abbrev pub with_head : Held → ℕ → Held
-with_head h w = record { labels = field w 13 5; actions = field w 18 4; mask = h.mask; marks = h.marks; starts = h.starts; moves = h.moves }
+with_head h w = record { labels = (head_in w).labels; actions = (head_in w).actions; mask = h.mask; marks = h.marks; starts = h.starts; moves = h.moves }
 
 -- a mask, whose reward is due
 abbrev pub with_mask : Held → ℕ → Held
-with_mask h w = record { labels = h.labels; actions = h.actions; mask = field w 0 24; marks = h.marks; starts = h.starts; moves = h.moves }
+with_mask h w = record { labels = h.labels; actions = h.actions; mask = mask_in w; marks = h.marks; starts = h.starts; moves = h.moves }
 
 abbrev pub with_mark : Held → ℕ → Held
-with_mark h w = record { labels = h.labels; actions = h.actions; mask = h.mask; marks = h.marks ++ (record { mask = h.mask; worth = record { raised = field w 0 12; origin = field w 12 12 } } ∷ []); starts = h.starts; moves = h.moves }
+with_mark h w = record { labels = h.labels; actions = h.actions; mask = h.mask; marks = h.marks ++ (record { mask = h.mask; worth = worth_in w } ∷ []); starts = h.starts; moves = h.moves }
 
 -- every cell below n has begun
 abbrev pub begun : ℕ → Held → Held
@@ -49,10 +49,10 @@ begun n h = record { labels = h.labels; actions = h.actions; mask = h.mask; mark
 
 -- an entry: its cell and all before it have begun
 abbrev pub with_entry : Held → ℕ → Held
-with_entry h w = begun (field w 0 12 * h.actions + field w 12 3 + 1) h
+with_entry h w = begun ((entry_in w).state * h.actions + (entry_in w).action + 1) h
 
 abbrev pub with_move : Held → ℕ → Held
-with_move h w = record { labels = h.labels; actions = h.actions; mask = h.mask; marks = h.marks; starts = h.starts; moves = h.moves ++ (record { target = field w 0 12; weight = field w 12 4 } ∷ []) }
+with_move h w = record { labels = h.labels; actions = h.actions; mask = h.mask; marks = h.marks; starts = h.starts; moves = h.moves ++ (move_in w ∷ []) }
 
 abbrev pub put_as : Result Kind Refusal → Held → ℕ → Held
 put_as (Ok kinds.Head) h w = with_head h w

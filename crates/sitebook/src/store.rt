@@ -2,10 +2,9 @@
 ghost use Rattle.std.specs.Prelude.{◌≡◌, IfOk, OnOk};
 ghost use Rattle.sitebook.specs.Storing.{held, nothing, begun, put_of};
 
-use sitelayout::{Kind, Mark, Move, Worth};
+use sitelayout::{Kind, Mark, Move, entry_in, head_in, mask_in, move_in, worth_in};
 use siteverdict::Counts;
 use std::alloc::{AllocError, Global};
-use words::field;
 
 // `mask` is that of the state whose reward is due. One row holds the outcomes of all cells, so that each table is one
 // allocation of a known size.
@@ -42,26 +41,21 @@ impl Store {
     {
         match Kind::try_from(word) {
             Ok(Kind::Head) => {
-                self.labels = field(word, 13, 5);
-                self.actions = field(word, 18, 4);
+                let head = head_in(word);
+                self.labels = head.labels;
+                self.actions = head.actions;
             }
-            Ok(Kind::Mask) => self.mask = field(word, 0, 24),
+            Ok(Kind::Mask) => self.mask = mask_in(word),
             Ok(Kind::Reward) => self.marks.push(Mark {
                 mask: self.mask,
-                worth: Worth {
-                    raised: field(word, 0, 12) as u16,
-                    origin: field(word, 12, 12) as u16,
-                },
+                worth: worth_in(word),
             })?,
             Ok(Kind::Entry) => {
-                let state = field(word, 0, 12) as usize;
-                let action = field(word, 12, 3) as usize;
-                self.begin(state * self.actions as usize + action + 1)?;
+                let entry = entry_in(word);
+                let place = entry.state as usize * self.actions as usize + entry.action as usize;
+                self.begin(place + 1)?;
             }
-            Ok(Kind::Move) => self.moves.push(Move {
-                target: field(word, 0, 12) as u16,
-                weight: field(word, 12, 4) as u8,
-            })?,
+            Ok(Kind::Move) => self.moves.push(move_in(word))?,
             _ => {}
         }
         Ok(())

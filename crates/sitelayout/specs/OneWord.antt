@@ -29,6 +29,28 @@ word_of_entry state action outcomes = number_of kinds.Entry * 2 ^ 28 + (state + 
 abbrev pub word_of_move : Move → ℕ
 word_of_move m = number_of kinds.Move * 2 ^ 28 + (m.target + m.weight * 2 ^ 12)
 
+-- the fields of a word as they stand, by its kind
+
+-- kind 1: the number of states in bits 0 to 12, of labels in 13 to 17, of actions in 18 to 21
+abbrev pub head_in : ℕ → Head
+head_in w = record { states = field w 0 13; labels = field w 13 5; actions = field w 18 4 }
+
+-- kind 2: the label mask in bits 0 to 23
+abbrev pub mask_in : ℕ → ℕ
+mask_in w = field w 0 24
+
+-- kind 3: the reward plus 2,000 in bits 0 to 11, the origin in 12 to 23
+abbrev pub worth_in : ℕ → Worth
+worth_in w = record { raised = field w 0 12; origin = field w 12 12 }
+
+-- kind 4: the state in bits 0 to 11, the action in 12 to 14, the number of outcomes in 15 to 18
+abbrev pub entry_in : ℕ → Entry
+entry_in w = record { state = field w 0 12; action = field w 12 3; outcomes = field w 15 4 }
+
+-- kind 5: the target in bits 0 to 11, the weight in 12 to 15
+abbrev pub move_in : ℕ → Move
+move_in w = record { target = field w 0 12; weight = field w 12 4 }
+
 -- a word of kind k, whose fields are its lowest n bits: it says x where its ranges are right
 abbrev pub said : {X : Type 0} → Kind → ℕ → ℕ → Bool → X → Result X Refusal
 said k n w ranges x =
@@ -36,37 +58,23 @@ said k n w ranges x =
     (require (field w n (28 - n) == 0) UnusedBit
     (require ranges OutOfRange (Ok x)))
 
--- kind 1: the number of states in bits 0 to 12, of labels in 13 to 17, of actions in 18 to 21
 abbrev pub head_of : ℕ → Result Head Refusal
 head_of w =
-    said kinds.Head 22 w
-    (within 1 4096 (field w 0 13) && (nat_le (field w 13 5) 24 && within 1 8 (field w 18 4)))
-    (record { states = field w 0 13; labels = field w 13 5; actions = field w 18 4 })
+    let h = head_in w in
+    said kinds.Head 22 w (within 1 4096 h.states && (nat_le h.labels 24 && within 1 8 h.actions)) h
 
--- kind 2: the label mask in bits 0 to 23
 abbrev pub mask_of : ℕ → ℕ → Result ℕ Refusal
-mask_of labels w =
-    said kinds.Mask 24 w
-    (nat_lt (field w 0 24) (2 ^ labels))
-    (field w 0 24)
+mask_of labels w = said kinds.Mask 24 w (nat_lt (mask_in w) (2 ^ labels)) (mask_in w)
 
--- kind 3: the reward plus 2,000 in bits 0 to 11, the origin in 12 to 23
 abbrev pub reward_of : ℕ → Result Worth Refusal
-reward_of w =
-    said kinds.Reward 24 w
-    (nat_le (field w 0 12) 4000)
-    (record { raised = field w 0 12; origin = field w 12 12 })
+reward_of w = said kinds.Reward 24 w (nat_le (worth_in w).raised 4000) (worth_in w)
 
--- kind 4: the state in bits 0 to 11, the action in 12 to 14, the number of outcomes in 15 to 18
 abbrev pub entry_of : ℕ → ℕ → ℕ → Result Entry Refusal
 entry_of states actions w =
-    said kinds.Entry 19 w
-    (nat_lt (field w 0 12) states && (nat_lt (field w 12 3) actions && within 1 8 (field w 15 4)))
-    (record { state = field w 0 12; action = field w 12 3; outcomes = field w 15 4 })
+    let e = entry_in w in
+    said kinds.Entry 19 w (nat_lt e.state states && (nat_lt e.action actions && within 1 8 e.outcomes)) e
 
--- kind 5: the target in bits 0 to 11, the weight in 12 to 15
 abbrev pub move_of : ℕ → ℕ → Result Move Refusal
 move_of states w =
-    said kinds.Move 16 w
-    (nat_lt (field w 0 12) states && within 1 8 (field w 12 4))
-    (record { target = field w 0 12; weight = field w 12 4 })
+    let m = move_in w in
+    said kinds.Move 16 w (nat_lt m.target states && within 1 8 m.weight) m

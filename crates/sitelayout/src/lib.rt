@@ -3,6 +3,7 @@
 #![tactic(auto)]
 
 ghost use Rattle.std.specs.Prelude.{◌≡◌};
+ghost use Rattle.sitelayout.specs.OneWord as one_word;
 ghost use Rattle.sitelayout.specs.OneWord.{head_of, mask_of, reward_of, entry_of, move_of};
 
 use refusal::Refusal;
@@ -49,28 +50,68 @@ pub struct Move {
     pub weight: u8,
 }
 
+// What a head says, untested: the fields of the word as they stand, and so in what follows.
+pub fn head_in(word: u32) -> Head
+    ensures { result ≡ one_word.head_in word }
+{
+    Head {
+        states: field(word, 0, 13),
+        labels: field(word, 13, 5),
+        actions: field(word, 18, 4),
+    }
+}
+
+pub fn mask_in(word: u32) -> u32
+    ensures { result ≡ one_word.mask_in word }
+{
+    field(word, 0, 24)
+}
+
+pub fn worth_in(word: u32) -> Worth
+    ensures { result ≡ one_word.worth_in word }
+{
+    Worth {
+        raised: field(word, 0, 12) as u16,
+        origin: field(word, 12, 12) as u16,
+    }
+}
+
+pub fn entry_in(word: u32) -> Entry
+    ensures { result ≡ one_word.entry_in word }
+{
+    Entry {
+        state: field(word, 0, 12),
+        action: field(word, 12, 3),
+        outcomes: field(word, 15, 4),
+    }
+}
+
+pub fn move_in(word: u32) -> Move
+    ensures { result ≡ one_word.move_in word }
+{
+    Move {
+        target: field(word, 0, 12) as u16,
+        weight: field(word, 12, 4) as u8,
+    }
+}
+
+// What a head says, or what is wrong with its word: first its kind and unused bits, and then the ranges; and so in what follows.
 pub fn read_head(word: u32) -> Result<Head, Refusal>
     ensures { result ≡ head_of word }
 {
     open(word, Kind::Head as u32, 22)?;
-    let states = field(word, 0, 13);
-    let labels = field(word, 13, 5);
-    let actions = field(word, 18, 4);
-    if !(1..=4096).contains(&states) || labels > 24 || !(1..=8).contains(&actions) {
+    let head = head_in(word);
+    if !(1..=4096).contains(&head.states) || head.labels > 24 || !(1..=8).contains(&head.actions) {
         return Err(Refusal::OutOfRange);
     }
-    Ok(Head {
-        states,
-        labels,
-        actions,
-    })
+    Ok(head)
 }
 
 pub fn read_mask(word: u32, labels: u32) -> Result<u32, Refusal>
     ensures { result ≡ mask_of labels word }
 {
     open(word, Kind::Mask as u32, 24)?;
-    let mask = field(word, 0, 24);
+    let mask = mask_in(word);
     if !fits(mask, labels) {
         return Err(Refusal::OutOfRange);
     }
@@ -81,44 +122,31 @@ pub fn read_reward(word: u32) -> Result<Worth, Refusal>
     ensures { result ≡ reward_of word }
 {
     open(word, Kind::Reward as u32, 24)?;
-    let raised = field(word, 0, 12) as u16;
-    if raised > 4000 {
+    let worth = worth_in(word);
+    if worth.raised > 4000 {
         return Err(Refusal::OutOfRange);
     }
-    Ok(Worth {
-        raised,
-        origin: field(word, 12, 12) as u16,
-    })
+    Ok(worth)
 }
 
 pub fn read_entry(word: u32, states: u32, actions: u32) -> Result<Entry, Refusal>
     ensures { result ≡ entry_of states actions word }
 {
     open(word, Kind::Entry as u32, 19)?;
-    let state = field(word, 0, 12);
-    let action = field(word, 12, 3);
-    let outcomes = field(word, 15, 4);
-    if state >= states || action >= actions || !(1..=8).contains(&outcomes) {
+    let entry = entry_in(word);
+    if entry.state >= states || entry.action >= actions || !(1..=8).contains(&entry.outcomes) {
         return Err(Refusal::OutOfRange);
     }
-    Ok(Entry {
-        state,
-        action,
-        outcomes,
-    })
+    Ok(entry)
 }
 
 pub fn read_move(word: u32, states: u32) -> Result<Move, Refusal>
     ensures { result ≡ move_of states word }
 {
     open(word, Kind::Move as u32, 16)?;
-    let target = field(word, 0, 12);
-    let weight = field(word, 12, 4);
-    if target >= states || !(1..=8).contains(&weight) {
+    let way = move_in(word);
+    if way.target as u32 >= states || !(1..=8).contains(&way.weight) {
         return Err(Refusal::OutOfRange);
     }
-    Ok(Move {
-        target: target as u16,
-        weight: weight as u8,
-    })
+    Ok(way)
 }
