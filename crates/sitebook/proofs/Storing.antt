@@ -1,11 +1,11 @@
 -- The tables follow the draft of the book that is being read, and at the end they hold the book. For others: `Storing`, what
 -- is known of the pass so far, and the `storing_` lemmas, one for each thing that the pass does.
-use Rattle.std.proofs.Common.{◌≡◌, ℕ, zero, suc, ◌+◌, ◌-◌, ◌*◌, ◌%◌, ◌^◌, ◌<◌, ◌≤◌, Bool, not, ◌&&◌, eqb, ltb, leb, List, [], ◌∷◌, ◌++◌, length, get_or, drop, replicate, Some, None, Ok, Err, Result, sym, refl, ap, ◌∙◌, subst, inl, inr, zero-add, arith, rules}
-use Rattle.std.proofs.lemmas.List.{append_assoc, replicate_more}
+use Rattle.std.proofs.Common.{◌≡◌, ℕ, zero, suc, ◌+◌, ◌-◌, ◌*◌, ◌%◌, ◌^◌, ◌<◌, ◌≤◌, Bool, true, not, ◌&&◌, eqb, ltb, leb, List, [], ◌∷◌, ◌++◌, length, get_or, set, take, drop, replicate, Some, None, Ok, Err, Result, sym, refl, ap, ◌∙◌, subst, inl, inr, arith, rules}
+use Rattle.std.proofs.lemmas.List.{append_assoc, length_push, replicate_more}
 use Rattle.std.proofs.lemmas.Bool.{cases_Bool, leb-true, cond-true, cond-false}
 use Rattle.refusal.specs.declared.Refusal.{Refusal}
 use Rattle.refusal.specs.declared.Refusal.TheVariants.{WrongEnd, WrongTotal, NotRising}
-use Rattle.words.specs.Words.{field, kind, first_word}
+use Rattle.words.specs.Words.{kind, first_word}
 use Rattle.words.specs.Format.{Step, wrong, more, ends, onto, got, stop, is_nil, closing, ending, run, reading}
 use Rattle.words.proofs.Reading.{after, run_short, turn}
 use Rattle.words.proofs.Tests.{onto_more, check_more}
@@ -13,185 +13,135 @@ use Rattle.sitelayout.specs.declared.Entry.{Entry}
 use Rattle.sitelayout.specs.declared.Head.{Head}
 use Rattle.sitelayout.specs.declared.Mark.{Mark}
 use Rattle.sitelayout.specs.declared.Move.{Move}
-use Rattle.sitelayout.specs.declared.Worth.{Worth}
 use Rattle.sitelayout.specs.declared.kind.Kind.TheVariants.{End}
 use Rattle.sitelayout.specs.Kinds.{numbered, kind_of}
-use Rattle.sitelayout.specs.OneWord.{head_of, mask_of, reward_of, entry_of, move_of}
+use Rattle.sitelayout.specs.OneWord.{entry_in, head_of, mask_of, reward_of, entry_of, move_of}
 use Rattle.sitelayout.specs.Site.{Site, taken, total, valid}
 use Rattle.sitelayout.specs.Layout as layout
 use Rattle.sitelayout.specs.Layout.{Draft, fresh, marking, listing, moving, place_of, padded, marked, read_entry, moved, read_move, read_word, whole_book, site_format}
-use Rattle.sitelayout.proofs.Account.{same_more, more_is_no_end, Good, word_kept, end_word_reads, whole_book_is, book_kept}
+use Rattle.sitelayout.proofs.Account.{same_more, more_is_no_end, padded-length, Good, word_kept, end_word_reads, whole_book_is, book_kept}
 use Rattle.sitelayout.proofs.OneWords.{head_fields, mask_fields, reward_fields, entry_fields, move_fields}
 use Rattle.siteverdict.specs.declared.Counts.{Counts}
-use Rattle.siteverdict.specs.Counting.{bound_of, moves_in, Counted}
-use Rattle.siteverdict.proofs.Waiting.{moves_filled}
-use Rattle.sitebook.specs.Storing.{Held, nothing, filled, with_head, with_mask, with_mark, with_entry, with_move, put_as, put_of, edges_of, book_of, Closable}
-use Rattle.sitebook.specs.Tables.{cut, site_of}
-use Rattle.sitebook.proofs.Tables.{flat, starts_of, ends_of, flat-length, flat_filled, starts-length, starts_filled, starts-push, flat-push, edges_are, cut_edges, rising}
+use Rattle.siteverdict.specs.Counting.{bound_of, Counted}
+use Rattle.sitebook.specs.Storing.{Held, nothing, with_head, with_mask, with_mark, with_entry, with_move, put_as, put_of}
+use Rattle.sitebook.proofs.Cells.{firsts, firsts_none, firsts_filled, firsts-push, firsts_whole}
 
-pub record Keeps (h : Held) (head : Head) (ms : List Mark) (cs : List (List Move)) : Type 0 where
-  pub labels : h.labels ≡ head.labels
-  pub actions : h.actions ≡ head.actions
-  pub marks : h.marks ≡ ms
-  pub starts : h.starts ≡ starts_of 0 cs
-  pub moves : h.moves ≡ flat cs
+-- n: how many cells the tables have
+module _ (n : ℕ) where
+  pub record Keeps (h : Held) (head : Head) (ms : List Mark) (cs : List (List Move)) : Type 0 where
+    pub labels : h.book.labels ≡ head.labels
+    pub actions : h.book.actions ≡ head.actions
+    pub marks : h.book.marks ≡ ms
+    pub cells : h.book.cells ≡ firsts n cs
 
-abbrev pub Stores : Held → Draft → Type 0
-Stores h fresh = h ≡ nothing
-Stores h (marking head ms None) = Keeps h head ms []
-Stores h (marking head ms (Some k)) = Keeps h head ms [] × (h.mask ≡ k)
-Stores h (listing head ms cs) = Keeps h head ms cs
-Stores h (moving head ms cs mv due) = Keeps h head ms (cs ++ (mv ∷ []))
+  abbrev pub Stores : Held → Draft → Type 0
+  Stores h fresh = h ≡ nothing n
+  Stores h (marking head ms None) = Keeps h head ms []
+  Stores h (marking head ms (Some k)) = Keeps h head ms [] × (h.mask ≡ k)
+  Stores h (listing head ms cs) = Keeps h head ms cs
+  Stores h (moving head ms cs mv due) = Keeps h head ms (cs ++ (mv ∷ [])) × (h.open_cell ≡ length cs)
 
-stores_marked : (h : Held) (head : Head) (ms : List Mark) → Keeps h head ms [] → Stores h (marked head ms)
-stores_marked h head ms of =
-    elim (cases_Bool (ltb (length ms) head.states)) [
-      | inl t ↦ subst (Stores h) (sym (cond-true _ (marking head ms None) (listing head ms []) t)) of
-      | inr t ↦ subst (Stores h) (sym (cond-false _ (marking head ms None) (listing head ms []) t)) of
-    ]
+  stores_marked : (h : Held) (head : Head) (ms : List Mark) → Keeps h head ms [] → Stores h (marked head ms)
+  stores_marked h head ms of =
+      elim (cases_Bool (ltb (length ms) head.states)) [
+        | inl t ↦ subst (Stores h) (sym (cond-true _ (marking head ms None) (listing head ms []) t)) of
+        | inr t ↦ subst (Stores h) (sym (cond-false _ (marking head ms None) (listing head ms []) t)) of
+      ]
 
--- an entry: its cell and all before it have begun
-stores_entry : (h : Held) (head : Head) (ms : List Mark) (cs : List (List Move)) (w : ℕ) (x : Entry) (e : Draft) → Keeps h head ms cs → entry_of head.states head.actions w ≡ Ok x → read_entry head ms cs x ≡ more e → (kind w ≡ 4) × Stores (with_entry h w) e
-stores_entry h head ms cs w x e of said is =
-    let s = entry_fields head.states head.actions w x said in
-    let passed = check_more (leb (length cs) (place_of head x)) NotRising (more (moving head ms (padded (place_of head x) cs) [] (x.outcomes - 1))) e is in
-    let k : ℕ = place_of head x in
-    let le : length cs ≤ k = leb-true (length cs) k passed.0 in
-    let st : field w 0 12 ≡ x.state = ap (λ (y : Entry). y.state) s.3 in
-    let ac : field w 12 3 ≡ x.action = ap (λ (y : Entry). y.action) s.3 in
-    let place : field w 0 12 * h.actions + field w 12 3 ≡ k = ap (λ n. n * h.actions + field w 12 3) st ∙ ap (λ n. x.state * n + field w 12 3) of.actions ∙ ap (λ n. x.state * head.actions + n) ac in
-    let one : k - length cs + 1 ≡ k + 1 - length cs = omega arith in
-    let cells : padded k cs ++ ([] ∷ []) ≡ cs ++ replicate (k + 1 - length cs) [] =
-    append_assoc cs (replicate (k - length cs) []) ([] ∷ []) ∙ ap (λ l. cs ++ l) (replicate_more (k - length cs) [] ∙ ap (λ n. replicate n []) one) in
-    let row : length h.moves ≡ moves_in cs = ap length of.moves ∙ flat-length cs in
-    let starts : filled (field w 0 12 * h.actions + field w 12 3 + 1) (length h.moves) h.starts ≡ starts_of 0 (padded k cs ++ ([] ∷ [])) =
-    ap (λ n. filled (n + 1) (length h.moves) h.starts) place
-    ∙ ap (λ n. filled (k + 1) n h.starts) row
-    ∙ ap (filled (k + 1) (moves_in cs)) of.starts
-    ∙ ap (λ n. starts_of 0 cs ++ replicate (k + 1 - n) (moves_in cs)) (starts-length 0 cs)
-    ∙ sym (ap (starts_of 0) cells ∙ starts_filled cs (k + 1 - length cs)) in (
-      s.0,
-      subst (Stores (with_entry h w)) (same_more passed.1) (record {
-        labels = of.labels;
-        actions = of.actions;
-        marks = of.marks;
-        starts = starts;
-        moves = of.moves ∙ sym (ap flat cells ∙ flat_filled cs (k + 1 - length cs));
-      }),
-    )
+  -- an entry opens its cell, which offers nothing so far, as those do that were passed over
+  stores_entry : (h : Held) (head : Head) (ms : List Mark) (cs : List (List Move)) (w : ℕ) (x : Entry) (e : Draft) → Keeps h head ms cs → entry_of head.states head.actions w ≡ Ok x → read_entry head ms cs x ≡ more e → (kind w ≡ 4) × Stores (with_entry h w) e
+  stores_entry h head ms cs w x e of said is =
+      let s = entry_fields head.states head.actions w x said in
+      let passed = check_more (leb (length cs) (place_of head x)) NotRising (more (moving head ms (padded (place_of head x) cs) [] (x.outcomes - 1))) e is in
+      let k : ℕ = place_of head x in
+      let place : (entry_in w).state * h.book.actions + (entry_in w).action ≡ k = (λ i. (s.3 i).state * of.actions i + (s.3 i).action) in
+      let cells : padded k cs ++ ([] ∷ []) ≡ cs ++ replicate (k - length cs + 1) [] =
+      append_assoc cs (replicate (k - length cs) []) ([] ∷ []) ∙ ap (λ l. cs ++ l) (replicate_more (k - length cs) []) in (
+        s.0,
+        subst (Stores (with_entry h w)) (same_more passed.1) (
+          record {
+            labels = of.labels;
+            actions = of.actions;
+            marks = of.marks;
+            cells = of.cells ∙ sym (ap (firsts n) cells ∙ firsts_filled n cs (k - length cs + 1));
+          },
+          place ∙ sym (padded-length k cs (leb-true (length cs) k passed.0)),
+        ),
+      )
 
-stores_moved : (h : Held) (head : Head) (ms : List Mark) (cs : List (List Move)) (mv : List Move) (due : ℕ) (e : Draft) → Keeps h head ms (cs ++ (mv ∷ [])) → moved head ms cs mv due ≡ more e → Stores h e
-stores_moved h head ms cs mv zero e of is =
-    let passed = check_more (eqb (total mv) 8) WrongTotal (more (listing head ms (cs ++ (mv ∷ [])))) e is in
-    subst (Stores h) (same_more passed.1) of
-stores_moved h head ms cs mv (suc due) e of is = subst (Stores h) (same_more is) of
+  stores_moved : (h : Held) (head : Head) (ms : List Mark) (cs : List (List Move)) (mv : List Move) (due : ℕ) (e : Draft) → Keeps h head ms (cs ++ (mv ∷ [])) → h.open_cell ≡ length cs → moved head ms cs mv due ≡ more e → Stores h e
+  stores_moved h head ms cs mv zero e of at is =
+      let passed = check_more (eqb (total mv) 8) WrongTotal (more (listing head ms (cs ++ (mv ∷ [])))) e is in
+      subst (Stores h) (same_more passed.1) of
+  stores_moved h head ms cs mv (suc due) e of at is = subst (Stores h) (same_more is) (of, at)
 
-stores_move : (h : Held) (head : Head) (ms : List Mark) (cs : List (List Move)) (mv : List Move) (due w : ℕ) (x : Move) (e : Draft) → Keeps h head ms (cs ++ (mv ∷ [])) → move_of head.states w ≡ Ok x → read_move head ms cs mv due x ≡ more e → (kind w ≡ 5) × Stores (with_move h w) e
-stores_move h head ms cs mv due w x e of said is =
-    let s = move_fields head.states w x said in
-    let passed = check_more (not (taken x.target mv)) NotRising (moved head ms cs (mv ++ (x ∷ [])) due) e is in (
-      s.0,
-      stores_moved (with_move h w) head ms cs (mv ++ (x ∷ [])) due e (record {
-        labels = of.labels;
-        actions = of.actions;
-        marks = of.marks;
-        starts = of.starts ∙ starts-push cs mv (mv ++ (x ∷ []));
-        moves = ap (λ (m : Move). h.moves ++ (m ∷ [])) s.3 ∙ ap (λ (l : List Move). l ++ (x ∷ [])) of.moves ∙ sym (flat-push cs mv x);
-      }) passed.1,
-    )
+  stores_move : (h : Held) (head : Head) (ms : List Mark) (cs : List (List Move)) (mv : List Move) (due w : ℕ) (x : Move) (e : Draft) → Keeps h head ms (cs ++ (mv ∷ [])) → h.open_cell ≡ length cs → length mv + suc due ≤ 8
+      → move_of head.states w ≡ Ok x → read_move head ms cs mv due x ≡ more e → (kind w ≡ 5) × Stores (with_move h w) e
+  stores_move h head ms cs mv due w x e of at few said is =
+      let s = move_fields head.states w x said in
+      let passed = check_more (not (taken x.target mv)) NotRising (moved head ms cs (mv ++ (x ∷ [])) due) e is in (
+        s.0,
+        stores_moved (with_move h w) head ms cs (mv ++ (x ∷ [])) due e (record {
+          labels = of.labels;
+          actions = of.actions;
+          marks = of.marks;
+          cells = (λ i. set (of.cells i) (at i) (take 8 (get_or (of.cells i) (at i) [] ++ (s.3 i ∷ [])))) ∙ firsts-push n cs mv x (omega (arith, length_push mv x));
+        }) at passed.1,
+      )
 
--- what one word does, by its kind
-pub stores_step : (h : Held) (d e : Draft) (w : ℕ) → Stores h d → read_word d w ≡ more e → (kind w < 15) × Stores (put_of h w) e
-unfolding read_word
-stores_step h fresh e w of is =
-    let said = onto_more (head_of w) (λ x. more (marking x [] None)) e is in
-    let s = head_fields w said.0 said.1.0 in (
-      omega (arith, s.0),
-      subst (λ k. Stores (put_as k h w) e) (sym (ap numbered s.0)) (subst (Stores (with_head h w)) (same_more said.1.1) (record {
-        labels = ap (λ (x : Head). x.labels) s.3;
-        actions = ap (λ (x : Head). x.actions) s.3;
-        marks = ap (λ (x : Held). x.marks) of;
-        starts = ap (λ (x : Held). x.starts) of;
-        moves = ap (λ (x : Held). x.moves) of;
-      })),
-    )
-stores_step h (marking head ms None) e w of is =
-    let said = onto_more (mask_of head.labels w) (λ m. more (marking head ms (Some m))) e is in
-    let s = mask_fields head.labels w said.0 said.1.0 in (
-      omega (arith, s.0),
-      subst (λ k. Stores (put_as k h w) e) (sym (ap numbered s.0)) (subst (Stores (with_mask h w)) (same_more said.1.1)
-          (record { labels = of.labels; actions = of.actions; marks = of.marks; starts = of.starts; moves = of.moves }, s.3)),
-    )
-stores_step h (marking head ms (Some k)) e w of is =
-    let said = onto_more (reward_of w) (λ r. more (marked head (ms ++ (record { mask = k; worth = r } ∷ [])))) e is in
-    let s = reward_fields w said.0 said.1.0 in
-    let kept = of.0 in
-    let mark : ◌≡◌ {A = Mark} (record { mask = h.mask; worth = record { raised = field w 0 12; origin = field w 12 12 } }) (record { mask = k; worth = said.0 }) =
-    ap {B = Mark} (λ (n : ℕ). record { mask = n; worth = record { raised = field w 0 12; origin = field w 12 12 } }) of.1 ∙ ap {B = Mark} (λ (r : Worth). record { mask = k; worth = r }) s.3 in (
-      omega (arith, s.0),
-      subst (λ n. Stores (put_as n h w) e) (sym (ap numbered s.0)) (subst (Stores (with_mark h w)) (same_more said.1.1)
-          (stores_marked (with_mark h w) head (ms ++ (record { mask = k; worth = said.0 } ∷ []))
-          (record {
-            labels = kept.labels;
-            actions = kept.actions;
-            marks = ap (λ (l : List Mark). l ++ (record { mask = h.mask; worth = record { raised = field w 0 12; origin = field w 12 12 } } ∷ [])) kept.marks ∙ ap (λ (m : Mark). ms ++ (m ∷ [])) mark;
-            starts = kept.starts;
-            moves = kept.moves;
-          }))),
-    )
-stores_step h (listing head ms cs) e w of is =
-    elim (cases_Bool (eqb (kind w) 15)) [
-      | inl t ↦ absurd (more_is_no_end (sym is ∙ cond-true _ ends (onto (entry_of head.states head.actions w) (read_entry head ms cs)) t))
-      | inr t ↦
-          let said = onto_more (entry_of head.states head.actions w) (read_entry head ms cs) e (sym (cond-false _ ends (onto (entry_of head.states head.actions w) (read_entry head ms cs)) t) ∙ is) in
-          let s = stores_entry h head ms cs w said.0 e of said.1.0 said.1.1 in
-          (omega (arith, s.0), subst (λ k. Stores (put_as k h w) e) (sym (ap numbered s.0)) s.1)
-    ]
-stores_step h (moving head ms cs mv due) e w of is =
-    let said = onto_more (move_of head.states w) (read_move head ms cs mv due) e is in
-    let s = stores_move h head ms cs mv due w said.0 e of said.1.0 said.1.1 in
-    (omega (arith, s.0), subst (λ k. Stores (put_as k h w) e) (sym (ap numbered s.0)) s.1)
+  -- what one word does, by its kind
+  pub stores_step : (h : Held) (d e : Draft) (w : ℕ) → Good d → Stores h d → read_word d w ≡ more e → (kind w < 15) × Stores (put_of h w) e
+  unfolding read_word
+  stores_step h fresh e w good of is =
+      let said = onto_more (head_of w) (λ x. more (marking x [] None)) e is in
+      let s = head_fields w said.0 said.1.0 in (
+        omega (arith, s.0),
+        subst (λ k. Stores (put_as k h w) e) (sym (ap numbered s.0)) (subst (Stores (with_head h w)) (same_more said.1.1) (record {
+          labels = ap (λ (x : Head). x.labels) s.3;
+          actions = ap (λ (x : Head). x.actions) s.3;
+          marks = ap (λ (x : Held). x.book.marks) of;
+          cells = ap (λ (x : Held). x.book.cells) of ∙ sym (firsts_none n);
+        })),
+      )
+  stores_step h (marking head ms None) e w good of is =
+      let said = onto_more (mask_of head.labels w) (λ m. more (marking head ms (Some m))) e is in
+      let s = mask_fields head.labels w said.0 said.1.0 in (
+        omega (arith, s.0),
+        subst (λ k. Stores (put_as k h w) e) (sym (ap numbered s.0)) (subst (Stores (with_mask h w)) (same_more said.1.1)
+            (record { labels = of.labels; actions = of.actions; marks = of.marks; cells = of.cells }, s.3)),
+      )
+  stores_step h (marking head ms (Some k)) e w good of is =
+      let said = onto_more (reward_of w) (λ r. more (marked head (ms ++ (record { mask = k; worth = r } ∷ [])))) e is in
+      let s = reward_fields w said.0 said.1.0 in
+      let kept = of.0 in (
+        omega (arith, s.0),
+        subst (λ n. Stores (put_as n h w) e) (sym (ap numbered s.0)) (subst (Stores (with_mark h w)) (same_more said.1.1)
+            (stores_marked (with_mark h w) head (ms ++ (record { mask = k; worth = said.0 } ∷ []))
+            (record {
+              labels = kept.labels;
+              actions = kept.actions;
+              marks = λ i. kept.marks i ++ (record { mask = of.1 i; worth = s.3 i } ∷ []);
+              cells = kept.cells;
+            }))),
+      )
+  stores_step h (listing head ms cs) e w good of is =
+      elim (cases_Bool (eqb (kind w) 15)) [
+        | inl t ↦ absurd (more_is_no_end (sym is ∙ cond-true _ ends (onto (entry_of head.states head.actions w) (read_entry head ms cs)) t))
+        | inr t ↦
+            let said = onto_more (entry_of head.states head.actions w) (read_entry head ms cs) e (sym (cond-false _ ends (onto (entry_of head.states head.actions w) (read_entry head ms cs)) t) ∙ is) in
+            let s = stores_entry h head ms cs w said.0 e of said.1.0 said.1.1 in
+            (omega (arith, s.0), subst (λ k. Stores (put_as k h w) e) (sym (ap numbered s.0)) s.1)
+      ]
+  stores_step h (moving head ms cs mv due) e w good of is =
+      let said = onto_more (move_of head.states w) (read_move head ms cs mv due) e is in
+      let s = stores_move h head ms cs mv due w said.0 e of.0 of.1 good.1.1.1.1.1.1 said.1.0 said.1.1 in
+      (omega (arith, s.0), subst (λ k. Stores (put_as k h w) e) (sym (ap numbered s.0)) s.1)
 
 -- the tables at the end of the entries
-module _ (h : Held) (head : Head) (ms : List Mark) (cs : List (List Move)) (of : Keeps h head ms cs) (count : length ms ≡ head.states) (few : length cs ≤ head.states * head.actions) where
-  table : List (List Move)
-  table = padded (head.states * head.actions) cs
-
-  edges_at_end : edges_of h ≡ 0 ∷ ends_of 0 (padded (head.states * head.actions) cs)
-  edges_at_end =
-      let n : ℕ = head.states * head.actions in
-      let long : length h.marks ≡ head.states = ap length of.marks ∙ count in
-      let all : length h.marks * h.actions ≡ n = ap (λ x. x * h.actions) long ∙ ap (λ x. head.states * x) of.actions in
-      let row : length h.moves ≡ moves_in cs = ap length of.moves ∙ flat-length cs in
-      let up : n + 1 - length (starts_of 0 cs) ≡ n - length cs + 1 = omega (arith, starts-length 0 cs) in
-      let same : moves_in cs ≡ 0 + moves_in (padded n cs) = sym (zero-add (moves_in (padded n cs)) ∙ moves_filled cs (n - length cs)) in
-      ap (λ x. filled (x + 1) (length h.moves) h.starts) all
-      ∙ ap (λ x. filled (n + 1) x h.starts) row
-      ∙ ap (filled (n + 1) (moves_in cs)) of.starts
-      ∙ ap (λ x. starts_of 0 cs ++ replicate x (moves_in cs)) up
-      ∙ ap (λ (l : List ℕ). starts_of 0 cs ++ l) (sym (replicate_more (n - length cs) (moves_in cs)))
-      ∙ sym (append_assoc (starts_of 0 cs) (replicate (n - length cs) (moves_in cs)) (moves_in cs ∷ []))
-      ∙ ap (λ (l : List ℕ). l ++ (moves_in cs ∷ [])) (sym (starts_filled cs (n - length cs)))
-      ∙ ap (λ x. starts_of 0 (padded n cs) ++ (x ∷ [])) same
-      ∙ edges_are 0 (padded n cs)
-
-  row_at_end : h.moves ≡ flat (padded (head.states * head.actions) cs)
-  row_at_end = of.moves ∙ sym (flat_filled cs (head.states * head.actions - length cs))
-
-  book_at_end : book_of h ≡ layout.book_of head ms cs
-  book_at_end =
-      let cells : cut (edges_of h) h.moves ≡ padded (head.states * head.actions) cs =
-      ap (λ (l : List ℕ). cut l h.moves) edges_at_end ∙ ap (cut (0 ∷ ends_of 0 (padded (head.states * head.actions) cs))) row_at_end ∙ cut_edges 0 (padded (head.states * head.actions) cs) [] refl in
-      ap (λ n. site_of n h.actions h.marks (edges_of h) h.moves) of.labels
-      ∙ ap (λ n. site_of head.labels n h.marks (edges_of h) h.moves) of.actions
-      ∙ ap (λ (l : List Mark). site_of head.labels head.actions l (edges_of h) h.moves) of.marks
-      ∙ ap (λ (l : List (List Move)). record { labels = head.labels; actions = head.actions; marks = ms; cells = l }) cells
-
-  rising_at_end : (k : ℕ) → k + 1 < length (edges_of h) → (get_or (edges_of h) k 0 ≤ get_or (edges_of h) (k + 1) 0) × (get_or (edges_of h) (k + 1) 0 ≤ length h.moves)
-  rising_at_end =
-      subst (λ (l : List Move). (k : ℕ) → k + 1 < length (edges_of h) → (get_or (edges_of h) k 0 ≤ get_or (edges_of h) (k + 1) 0) × (get_or (edges_of h) (k + 1) 0 ≤ length l)) (sym row_at_end)
-      (subst (λ (l : List ℕ). (k : ℕ) → k + 1 < length l → (get_or l k 0 ≤ get_or l (k + 1) 0) × (get_or l (k + 1) 0 ≤ length (flat (padded (head.states * head.actions) cs)))) (sym edges_at_end)
-      (rising (padded (head.states * head.actions) cs)))
+book_at_end : (n : ℕ) (h : Held) (head : Head) (ms : List Mark) (cs : List (List Move)) → Keeps n h head ms cs → n ≡ head.states * head.actions → length cs ≤ n → h.book ≡ layout.book_of head ms cs
+book_at_end n h head ms cs of all few =
+    let cells : h.book.cells ≡ padded (head.states * head.actions) cs = of.cells ∙ firsts_whole n cs few ∙ ap (λ n. padded n cs) all in
+    λ i. record { labels = of.labels i; actions = of.actions i; marks = of.marks i; cells = cells i }
 
 -- no other word has the end word's kind
 end_kind : (n : ℕ) → numbered n ≡ Ok End → n ≡ 15
@@ -204,7 +154,7 @@ pub record Storing (bytes rest : List ℕ) (c : Counts) (h : Held) : Type 0 wher
   pub counted : Counted c book
   pub draft : Draft
   pub good : Good draft
-  pub kept : Stores h draft
+  pub kept : Stores (c.head.states * c.head.actions) h draft
   pub place : ℕ
   pub left : run site_format draft place rest ≡ got book
 
@@ -241,7 +191,7 @@ module _ (bytes rest : List ℕ) (c : Counts) (h : Held) (s : Storing bytes rest
       counted = s.counted;
       draft = e;
       good = (word_kept s.draft e w s.good is).0;
-      kept = (stores_step h s.draft e w s.kept is).1;
+      kept = (stores_step (c.head.states * c.head.actions) h s.draft e w s.good s.kept is).1;
       place = s.place + 1;
       left = sym (ap (after site_format s.draft s.place w next) is) ∙ here;
     }
@@ -250,30 +200,27 @@ module _ (bytes rest : List ℕ) (c : Counts) (h : Held) (s : Storing bytes rest
     storing_more inside = more_by (read_word s.draft w) refl inside
 
     abbrev pub Closes : Type 0
-    Closes = (reading site_format bytes ≡ got (book_of h)) × Closable c h
+    Closes = (reading site_format bytes ≡ got h.book) × (valid h.book ≡ true) × (c.bound ≡ bound_of h.book.marks)
 
-    closes_table : (d : Draft) → Good d → Stores h d → whole_book d ≡ Ok s.book → Closes
+    closes_table : (d : Draft) → Good d → Stores (c.head.states * c.head.actions) h d → whole_book d ≡ Ok s.book → Closes
     unfolding whole_book
     closes_table fresh good kept whole = search rules
     closes_table (marking head ms o) good kept whole = search rules
     closes_table (moving head ms cs mv due) good kept whole = search rules
     closes_table (listing head ms cs) good kept whole =
-        let count = good.1.0 in
-        let few = good.1.1.1 in
-        let is : book_of h ≡ s.book = book_at_end h head ms cs kept count few ∙ (whole_book_is head ms cs s.book whole).1 in (
+        let same = (whole_book_is head ms cs s.book whole).1 in
+        let states : c.head.states ≡ head.states = s.counted.states ∙ ap (λ (b : Site). length b.marks) (sym same) ∙ good.1.0 in
+        let actions : c.head.actions ≡ head.actions = s.counted.actions ∙ ap (λ (b : Site). b.actions) (sym same) in
+        let count : c.head.states * c.head.actions ≡ head.states * head.actions = (λ i. states i * actions i) in
+        let is : h.book ≡ s.book = book_at_end (c.head.states * c.head.actions) h head ms cs kept count (omega (arith, good.1.1.1, count)) ∙ same in (
           s.read ∙ ap (λ (b : Site). got b) (sym is),
-          record {
-            sound = ap valid is ∙ (book_kept (listing head ms cs) s.book good whole).0;
-            rising = rising_at_end h head ms cs kept count few;
-            most = s.counted.bound ∙ ap (λ (b : Site). bound_of b.marks) (sym is);
-            states = omega (arith, ap length kept.marks, count, good.0.0.1);
-            actions = omega (arith, kept.actions, good.0.0.4);
-          },
+          ap valid is ∙ (book_kept (listing head ms cs) s.book good whole).0,
+          s.counted.bound ∙ ap (λ (b : Site). bound_of b.marks) (sym is),
         )
 
     closes_by : (st : Step Draft) → read_word s.draft w ≡ st → kind_of w ≡ Ok End → Closes
     closes_by (wrong r) is end = absurd (stop_is_no_book (sym (ap (after site_format s.draft s.place w next) is) ∙ here))
-    closes_by (more e) is end = absurd (omega (arith, (stores_step h s.draft e w s.kept is).0, end_kind (kind w) end))
+    closes_by (more e) is end = absurd (omega (arith, (stores_step (c.head.states * c.head.actions) h s.draft e w s.good s.kept is).0, end_kind (kind w) end))
     closes_by ends is end =
         closes_table s.draft s.good s.kept
         (ending_whole (whole_book s.draft) s.place w (is_nil next) s.book (sym (ap (after site_format s.draft s.place w next) is) ∙ here))

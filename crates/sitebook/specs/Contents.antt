@@ -1,8 +1,7 @@
 -- What a site book says, from the tables that it is stored in.
-use Rattle.std.specs.Prelude.{vec_items}
 use Rattle.sitelayout.specs.Site.{Site}
 use Rattle.sitebook.specs.declared.book.SiteBook.{SiteBook}
 use Rattle.sitebook.specs.Tables.{site_of}
 
 abbrev pub contents : SiteBook → Site
-contents b = site_of b.labels b.actions (vec_items b.marks) (vec_items b.starts) (vec_items b.moves)
+contents b = site_of b.tables

@@ -4,5 +4,6 @@
 
 mod book;
 mod store;
+mod tables;
 
 pub use book::{SiteBook, read_site};

@@ -1,37 +1,39 @@
 // The tables of a book while it is being stored, word by word.
-ghost use Rattle.std.specs.Prelude.{◌≡◌, IfOk, OnOk};
-ghost use Rattle.sitebook.specs.Storing.{held, nothing, begun, put_of};
+ghost use Rattle.std.specs.Prelude.{◌≡◌, ◌*◌, IfOk, OnOk};
+ghost use Rattle.sitebook.specs.Storing.{held, nothing, put_of};
 
-use sitelayout::{Kind, Mark, Move, entry_in, head_in, mask_in, move_in, worth_in};
+use crate::tables::Tables;
+use bounded::Bounded;
+use sitelayout::{Kind, Mark, entry_in, head_in, mask_in, move_in, worth_in};
 use siteverdict::Counts;
 use std::alloc::{AllocError, Global};
 
-// `mask` is that of the state whose reward is due. One row holds the outcomes of all cells, so that each table is one
-// allocation of a known size.
+// `mask` is that of the state whose reward is due, and `open` the place of the cell whose outcomes are.
 #[derive(Drop)]
 pub struct Store {
-    pub labels: u32,
-    pub actions: u32,
+    pub tables: Tables,
     pub mask: u32,
-    pub marks: Vec<Mark>,
-    pub starts: Vec<usize>,
-    pub moves: Vec<Move>,
+    pub open: usize,
 }
 
 impl Store {
-    // Nothing yet, with room for all of the book.
+    // Nothing yet, with room for all of the book: nothing is offered.
     pub fn with_room(heap: Global, counts: Counts) -> Result<Store, AllocError>
-        ensures { IfOk result (λ s. held s ≡ nothing) }
+        ensures { IfOk result (λ s. held s ≡ nothing (counts.head.states * counts.head.actions)) }
     {
         let states = counts.head.states as usize;
-        let actions = counts.head.actions as usize;
+        let count = states * counts.head.actions as usize;
+        let mut cells = Vec::with_capacity(heap, count)?;
+        cells.resize(count, Bounded::new())?;
         Ok(Store {
-            labels: 0,
-            actions: 0,
+            tables: Tables {
+                labels: 0,
+                actions: 0,
+                marks: Vec::with_capacity(heap, states)?,
+                cells,
+            },
             mask: 0,
-            marks: Vec::with_capacity(heap, states)?,
-            starts: Vec::with_capacity(heap, states * actions + 1)?,
-            moves: Vec::with_capacity(heap, counts.moves as usize)?,
+            open: 0,
         })
     }
 
@@ -42,30 +44,27 @@ impl Store {
         match Kind::try_from(word) {
             Ok(Kind::Head) => {
                 let head = head_in(word);
-                self.labels = head.labels;
-                self.actions = head.actions;
+                self.tables.labels = head.labels;
+                self.tables.actions = head.actions;
             }
             Ok(Kind::Mask) => self.mask = mask_in(word),
-            Ok(Kind::Reward) => self.marks.push(Mark {
+            Ok(Kind::Reward) => self.tables.marks.push(Mark {
                 mask: self.mask,
                 worth: worth_in(word),
             })?,
             Ok(Kind::Entry) => {
                 let entry = entry_in(word);
-                let place = entry.state as usize * self.actions as usize + entry.action as usize;
-                self.begin(place + 1)?;
+                let row = entry.state as usize * self.tables.actions as usize;
+                self.open = row + entry.action as usize;
             }
-            Ok(Kind::Move) => self.moves.push(move_in(word))?,
+            Ok(Kind::Move) => {
+                if let Some(cell) = self.tables.cells.get_mut(self.open) {
+                    // There is room: an entry has at most eight outcomes.
+                    let _ = cell.push(move_in(word));
+                }
+            }
             _ => {}
         }
         Ok(())
-    }
-
-    // Every cell below `count` has begun.
-    pub fn begin(&mut self, count: usize) -> Result<(), AllocError>
-        ensures { OnOk result (held self.new ≡ begun count (held self.old)) }
-    {
-        let end = self.moves.len();
-        self.starts.resize(self.starts.len().max(count), end)
     }
 }

@@ -44,7 +44,7 @@ pub struct Entry {
 }
 
 // One outcome of an entry: where it leads, and its weight in eighths.
-#[derive(Clone, Copy, Debug, PartialEq, Eq)]
+#[derive(Clone, Copy, Debug, Default, PartialEq, Eq)]
 pub struct Move {
     pub target: u16,
     pub weight: u8,

@@ -30,18 +30,18 @@ impl SiteBook {
     fn mark(&self, s: u64) -> Mark
         ensures { result ≡ mark_at (contents self.now) s }
     {
-        self.marks.get(s as usize).copied().unwrap_or(BLANK)
+        self.tables.marks.get(s as usize).copied().unwrap_or(BLANK)
     }
 
     // The outcomes of an action in a state, none where it is not offered.
     fn cell(&self, s: u64, a: u32) -> &[Move]
         ensures { result.now ≡ cell_at (contents self.now) s a }
     {
-        if s >= self.marks.len() as u64 || a >= self.actions {
+        if s >= self.tables.marks.len() as u64 || a >= self.tables.actions {
             return &[];
         }
-        let k = s as usize * self.actions as usize + a as usize;
-        &self.moves[self.starts[k]..self.starts[k + 1]]
+        let k = s as usize * self.tables.actions as usize + a as usize;
+        self.tables.cells.get(k).map_or(&[], |cell| cell.as_slice())
     }
 }
 
@@ -72,7 +72,7 @@ impl SiteModel for SiteBook {
     }
 
     fn is_state(&self, s: u64) -> bool {
-        self.marks.len() as u64 > s
+        self.tables.marks.len() as u64 > s
     }
 
     fn mask(&self, s: u64) -> u32 {
@@ -97,10 +97,10 @@ impl SiteModel for SiteBook {
 
     fn sizes(&self) -> Sizes {
         Sizes {
-            labels: self.labels,
-            actions: self.actions,
+            labels: self.tables.labels,
+            actions: self.tables.actions,
             bound: self.bound,
-            span: self.marks.len() as u64,
+            span: self.tables.marks.len() as u64,
         }
     }
 }
@@ -113,6 +113,6 @@ impl Numbered for SiteBook {
     ghost numbered = { λ b. site_numbered (contents b) b.sound };
 
     fn count(&self) -> usize {
-        self.marks.len()
+        self.tables.marks.len()
     }
 }

@@ -6,7 +6,7 @@ ghost use Rattle.sitelayout.specs.Site.{Site, valid};
 ghost use Rattle.siteverdict.specs.Counting.{Counted};
 ghost use Rattle.sitebook.specs.Contents.{contents};
 ghost use Rattle.sitebook.specs.Reading.{NotRead};
-ghost use Rattle.sitebook.specs.Storing.{held, book_of, Closable};
+ghost use Rattle.sitebook.specs.Storing.{held};
 
 use crate::book::SiteBook;
 use crate::store::Store;
@@ -31,41 +31,22 @@ fn stored(heap: Global, bytes: &[u8], counts: Counts) -> Result<SiteBook, AllocE
     requires { (b : Site) × ((reading site_format bytes.now ≡ got b) × Counted counts b) }
     ensures { IfOk result (λ k. reading site_format bytes.now ≡ got (contents k)) }
 {
-    let mut tables = Store::with_room(heap, counts)?;
+    let mut store = Store::with_room(heap, counts)?;
     let mut rest = bytes;
     loop {
         let Some((word, next)) = next_word(rest) else {
             unreachable();
         };
         match Kind::try_from(word) {
-            Ok(Kind::End) => return closed(tables, counts),
-            _ => tables.put(word)?,
+            Ok(Kind::End) => {
+                let Store { tables, .. } = store;
+                return Ok(SiteBook {
+                    tables,
+                    bound: counts.bound,
+                });
+            }
+            _ => store.put(word)?,
         }
         rest = next;
     }
-}
-
-// Every cell has begun, and the last has ended.
-fn closed(mut tables: Store, counts: Counts) -> Result<SiteBook, AllocError>
-    requires { Closable counts (held tables) }
-    ensures { IfOk result (λ k. contents k ≡ book_of (held tables)) }
-{
-    let cells = tables.marks.len() * tables.actions as usize;
-    tables.begin(cells + 1)?;
-    let Store {
-        labels,
-        actions,
-        mask: _,
-        marks,
-        starts,
-        moves,
-    } = tables;
-    Ok(SiteBook {
-        labels,
-        actions,
-        bound: counts.bound,
-        marks,
-        starts,
-        moves,
-    })
 }

@@ -5,7 +5,7 @@ use Rattle.sitebook.proofs.book.reading.stored.Given as goal
 
 -- the tables follow a draft, from which reading on gives the book
 abbrev pub invariant-loop-word : goal.invariant-loop-word
-invariant-loop-word l = Storing l.bytes l.rest l.counts (held l.tables)
+invariant-loop-word l = Storing l.bytes l.rest l.counts (held l.store)
 
 abbrev pub decreases-loop-word : goal.decreases-loop-word
 decreases-loop-word l = length l.rest
