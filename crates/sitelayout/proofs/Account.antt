@@ -1,11 +1,11 @@
 -- Whatever is accepted is the encoding of the site book that was read: the words read so far are those of the draft. For
 -- others: `Good`, what is known of a draft; `word_kept`, that each word keeps it; `end_word_reads`, that only an end word ends;
--- `whole_book_is` and `book_kept` of the book at the end; `total-push`, `padded-length` and the like.
+-- `whole_book_is` and `book_kept` of the book at the end; `total-push`, `padded-length` and the like, and `either_way` of a test on two numbers.
 use Rattle.std.proofs.Common.{◌≡◌, ℕ, zero, suc, ◌+◌, ◌-◌, ◌*◌, ◌/◌, ◌%◌, ◌^◌, ◌<◌, ◌≤◌, Bool, true, false, cond, not, ◌&&◌, eqb, ltb, leb, List, [], ◌∷◌, ◌++◌, length, replicate, Some, None, Ok, Err, Option, Result, sym, refl, ap, ◌∙◌, subst, inl, inr, append_assoc, append-nil, zero-add, arith, rules, length-append}
 use lib.ListN.{length-replicate}
 use Rattle.std.proofs.lemmas.Nat.{div-mul-add, mod-mul-add, mul-add-lt}
 use Rattle.std.proofs.lemmas.List.{length_push}
-use Rattle.std.proofs.lemmas.Bool.{and_parts, and_from, or_right, or_parts, or_from, eqb-false, ne_eqb, eqb-true, eq-eqb, ltb-true, ltb-false, lt-ltb, leb-true, le-leb, cases_Bool, not-true, not_from_false}
+use Rattle.std.proofs.lemmas.Bool.{and_parts, and_from, or_right, or_parts, or_from, cases_eq, ne_eqb, eqb-true, eq-eqb, ltb-true, ltb-false, lt-ltb, leb-true, le-leb, cases_Bool, not-true, not_from_false}
 use Rattle.refusal.specs.declared.Refusal.{Refusal}
 use Rattle.refusal.specs.declared.Refusal.TheVariants.{WrongTotal, NotRising, NoWait}
 use Rattle.words.specs.Words.{kind}
@@ -105,8 +105,12 @@ taken-push t (x ∷ ms) m h k =
     let parts = or_parts (eqb t x.target) (taken t ms) h in
     or_from (eqb t x.target) (taken t (ms ++ (m ∷ []))) parts.0 (taken-push t ms m parts.1 k)
 
-apart_either_way : (a b : ℕ) → eqb a b ≡ false → eqb b a ≡ false
-apart_either_way a b h = ne_eqb b a (λ e. eqb-false a b h (sym e))
+pub either_way : (a b : ℕ) → eqb a b ≡ eqb b a
+either_way a b =
+    elim (cases_eq a b) [
+      | inl same ↦ eq-eqb a b same ∙ sym (eq-eqb b a (sym same))
+      | inr other ↦ ne_eqb a b other ∙ sym (ne_eqb b a (λ e. other (sym e)))
+    ]
 
 pub apart-push : (ms : List Move) (m : Move) → apart ms ≡ true → taken m.target ms ≡ false → apart (ms ++ (m ∷ [])) ≡ true
 apart-push [] m h k = refl
@@ -114,7 +118,7 @@ apart-push (x ∷ ms) m h k =
     let parts = and_parts (not (taken x.target ms)) (apart ms) h in
     let others = or_parts (eqb m.target x.target) (taken m.target ms) k in
     and_from (not (taken x.target (ms ++ (m ∷ [])))) (apart (ms ++ (m ∷ [])))
-    (not_from_false (taken x.target (ms ++ (m ∷ []))) (taken-push x.target ms m (not-true (taken x.target ms) parts.0) (apart_either_way m.target x.target others.0)))
+    (not_from_false (taken x.target (ms ++ (m ∷ []))) (taken-push x.target ms m (not-true (taken x.target ms) parts.0) (either_way x.target m.target ∙ others.0)))
     (apart-push ms m parts.1 others.1)
 
 -- one word more
@@ -174,7 +178,7 @@ cell_word_push a k mv m =
     let opens : (l : List Move) → cell_word a k (l ++ (m ∷ [])) ≡ word_of_entry (k / a) (k % a) (length (l ++ (m ∷ []))) ∷ move_words (l ++ (m ∷ [])) = λ l. elim l as (λ l. cell_word a k (l ++ (m ∷ [])) ≡ word_of_entry (k / a) (k % a) (length (l ++ (m ∷ []))) ∷ move_words (l ++ (m ∷ []))) [ [] ↦ refl | x ∷ xs ↦ refl ] in
     opens mv ∙ (λ i. word_of_entry (k / a) (k % a) (length_push mv m i) ∷ move_words_push mv m i)
 
-pushed_some : (mv : List Move) (m : Move) → none (mv ++ (m ∷ [])) ≡ false
+pub pushed_some : (mv : List Move) (m : Move) → none (mv ++ (m ∷ [])) ≡ false
 pushed_some [] m = refl
 pushed_some (x ∷ mv) m = refl
 

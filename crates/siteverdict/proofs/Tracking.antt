@@ -1,6 +1,6 @@
 -- The state of the pass follows the book that is being read: what one word does to both.
-use Rattle.std.proofs.Common.{◌≡◌, ℕ, zero, suc, ◌+◌, ◌-◌, ◌*◌, ◌<◌, ◌≤◌, max, Bool, true, false, cond, not, eqb, List, [], ◌∷◌, ◌++◌, map, length, get_or, replicate, Some, None, Ok, Err, Result, add-zero, inl, inr, ◌||◌, sym, refl, ap, ◌∙◌, subst, lt_of_mul-lt-mul_right, arith}
-use Rattle.std.proofs.lemmas.Bool.{cases_eq, eqb-true, eqb-false, lt-ltb, le-ltb, eq-eqb, le-leb, ne_eqb}
+use Rattle.std.proofs.Common.{◌≡◌, ℕ, zero, suc, ◌+◌, ◌-◌, ◌*◌, ◌<◌, ◌≤◌, max, Bool, true, false, cond, not, eqb, List, [], ◌∷◌, ◌++◌, map, length, get_or, replicate, Some, None, Ok, Err, Result, add-zero, ◌||◌, sym, refl, ap, ◌∙◌, subst, lt_of_mul-lt-mul_right, arith}
+use Rattle.std.proofs.lemmas.Bool.{eqb-true, eqb-false, lt-ltb, le-ltb, eq-eqb, le-leb, ne_eqb}
 use Rattle.std.proofs.lemmas.List.{length_push, map_push, get_or_push, get_or_append_left}
 use Rattle.std.specs.List.{list_any}
 use mir.Val.{bool_byte}
@@ -19,7 +19,7 @@ use Rattle.sitelayout.specs.declared.Worth.{Worth}
 use Rattle.sitelayout.specs.Site.{taken, total, waits}
 use Rattle.sitelayout.specs.OneWord.{reward_of, entry_of, move_of}
 use Rattle.sitelayout.specs.Layout.{Draft, marking, listing, moving, place_of, padded, marked, read_entry, moved, read_move, read_word, book_of, whole_book}
-use Rattle.sitelayout.proofs.Account.{padded-length, total-push}
+use Rattle.sitelayout.proofs.Account.{padded-length, total-push, either_way}
 use Rattle.siteverdict.specs.declared.Counts.{Counts}
 use Rattle.siteverdict.specs.Counting.{size, Counted}
 use Rattle.siteverdict.specs.Tracking.{Marked, Tabled, Leads}
@@ -163,13 +163,6 @@ module _ (c : Counts) (n w : ℕ) (ms : List Mark) (cs : List (List Move)) (mv :
   close_by false e = subst (λ k. Tabled (record { head = c.head; moves = c.moves + count; bound = c.bound }) (n + 1) k ms (cs ++ (mv ∷ []))) (sym (add-zero w)) (close_other (eqb-false n (w * c.head.actions) e))
 
 -- the targets so far, as the pass keeps them
-either_way : (a b : ℕ) → eqb a b ≡ eqb b a
-either_way a b =
-    elim (cases_eq a b) [
-      | inl same ↦ eq-eqb a b same ∙ sym (eq-eqb b a (sym same))
-      | inr other ↦ ne_eqb a b other ∙ sym (ne_eqb b a (λ e. other (sym e)))
-    ]
-
 taken_is : (t : ℕ) (mv : List Move) → taken t mv ≡ list_any (λ y. eqb y t) (map (λ (m : Move). m.target) mv)
 taken_is t [] = refl
 taken_is t (m ∷ mv) = (λ i. either_way t m.target i || taken_is t mv i)
@@ -182,10 +175,6 @@ targets-push mv m ts us same is = map_push (λ (m : Move). m.target) mv m ∙ ap
 
 pub weight-push : (mv : List Move) (m : Move) (n : ℕ) → total mv ≡ n → total (mv ++ (m ∷ [])) ≡ n + m.weight
 weight-push mv m n same = total-push mv m ∙ ap (λ n. n + m.weight) same
-
-pub some-push : (mv : List Move) (m : Move) → none (mv ++ (m ∷ [])) ≡ false
-some-push [] m = refl
-some-push (x ∷ mv) m = refl
 
 -- the end word
 module _ (c : Counts) (n w : ℕ) (ms : List Mark) (cs : List (List Move)) (of : Tabled c n w ms cs) (d : Draft) (here : d ≡ listing c.head ms cs) where

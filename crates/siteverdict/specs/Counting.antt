@@ -1,5 +1,5 @@
 -- What the verdict on a file says: the counts of the book that it is, or the refusal that the reading of it stops at.
--- The counts are those that storing the book takes, and the largest size of a reward in it.
+-- The counts are those of its states, labels, actions and outcomes, and the largest size of a reward in it.
 use Rattle.std.specs.Prelude.{◌≡◌, ℕ, ◌+◌, ◌-◌, max, List, [], ◌∷◌, length, Ok, Err, Result}
 use Rattle.refusal.specs.declared.Fault.{Fault}
 use Rattle.words.specs.Format.{Verdict, got, stop}

@@ -45,7 +45,8 @@ impl SiteBook {
     }
 }
 
-// The first eight outcomes, by value.
+// The first eight outcomes, by value. A loop, since nothing collects into a bounded list, and a public `map` of one over a closure
+// would require that the closure may be called.
 fn gathered(moves: &[Move]) -> Outcomes
     ensures { listed result ≡ take 8 (map outcome_of moves.now) }
 {

@@ -26,7 +26,8 @@ pub fn read_site(heap: Global, bytes: &[u8]) -> Result<SiteBook, Unread>
     Ok(stored(heap, bytes, counts)?)
 }
 
-// The tables of a file that is known to be a book: no word of it is tested.
+// The tables of a file that is known to be a book. It requires that, since the pass that stores tests no word.
+// The loop is its own: it allocates, which no draft can, since a draft's step answers a refusal.
 fn stored(heap: Global, bytes: &[u8], counts: Counts) -> Result<SiteBook, AllocError>
     requires { (b : Site) × ((reading site_format bytes.now ≡ got b) × Counted counts b) }
     ensures { IfOk result (λ k. reading site_format bytes.now ≡ got (contents k)) }

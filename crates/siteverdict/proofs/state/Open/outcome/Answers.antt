@@ -2,8 +2,9 @@ use Rattle.std.proofs.Common.{◌≡◌, [], ◌∷◌, ◌++◌, ap, length, �
 use Rattle.std.proofs.lemmas.List.{length-map}
 use Rattle.bounded.specs.Listed.{listed}
 use Rattle.sitelayout.specs.declared.Move.{Move}
+use Rattle.sitelayout.proofs.Account.{pushed_some}
 use Rattle.siteverdict.specs.Tracking.{Tracks}
-use Rattle.siteverdict.proofs.Tracking.{move_leads, move_on, move_twice, moved_due, moved_wrong, moved_right, taken_by, targets-push, weight-push, some-push, close_by}
+use Rattle.siteverdict.proofs.Tracking.{move_leads, move_on, move_twice, moved_due, moved_wrong, moved_right, taken_by, targets-push, weight-push, close_by}
 use Rattle.siteverdict.proofs.state.Open.outcome.Goals as goal
 
 pub returns-then-contains : goal.returns-then-contains
@@ -60,4 +61,4 @@ returns c = λ d at.
     move_leads Tracks h at.0 c.args.word _ cs mv o.due m d at.1.1.1.0 (search rules)
     (move_on Tracks h at.0 c.args.word _ cs mv o.due m new
     (moved_right Tracks h at.0 cs (mv ++ (m ∷ [])) _ o.due c.if-due-gt0.false (weight-push mv m o.total of.weighed ∙ c.if-total-ne8.false)
-    (at.0, (cs ++ ((mv ++ (m ∷ [])) ∷ []), (refl, close_by t.counts t.cells t.waits at.0 cs (mv ++ (m ∷ [])) c.len.result of.table of.room (some-push mv m) long (eqb t.cells (t.waits * h.actions)) refl)))))
+    (at.0, (cs ++ ((mv ++ (m ∷ [])) ∷ []), (refl, close_by t.counts t.cells t.waits at.0 cs (mv ++ (m ∷ [])) c.len.result of.table of.room (pushed_some mv m) long (eqb t.cells (t.waits * h.actions)) refl)))))
