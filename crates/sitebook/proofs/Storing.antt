@@ -39,7 +39,7 @@ module _ (n : ℕ) where
   Stores h (marking head ms None) = Keeps h head ms []
   Stores h (marking head ms (Some k)) = Keeps h head ms [] × (h.mask ≡ k)
   Stores h (listing head ms cs) = Keeps h head ms cs
-  Stores h (moving head ms cs mv due) = Keeps h head ms (cs ++ (mv ∷ [])) × (h.open_cell ≡ length cs)
+  Stores h (moving head ms cs mv due) = Keeps h head ms (cs ++ (mv ∷ [])) × (h.at ≡ length cs)
 
   stores_marked : (h : Held) (head : Head) (ms : List Mark) → Keeps h head ms [] → Stores h (marked head ms)
   stores_marked h head ms of =
@@ -69,13 +69,13 @@ module _ (n : ℕ) where
         ),
       )
 
-  stores_moved : (h : Held) (head : Head) (ms : List Mark) (cs : List (List Move)) (mv : List Move) (due : ℕ) (e : Draft) → Keeps h head ms (cs ++ (mv ∷ [])) → h.open_cell ≡ length cs → moved head ms cs mv due ≡ more e → Stores h e
+  stores_moved : (h : Held) (head : Head) (ms : List Mark) (cs : List (List Move)) (mv : List Move) (due : ℕ) (e : Draft) → Keeps h head ms (cs ++ (mv ∷ [])) → h.at ≡ length cs → moved head ms cs mv due ≡ more e → Stores h e
   stores_moved h head ms cs mv zero e of at is =
       let passed = check_more (eqb (total mv) 8) WrongTotal (more (listing head ms (cs ++ (mv ∷ [])))) e is in
       subst (Stores h) (same_more passed.1) of
   stores_moved h head ms cs mv (suc due) e of at is = subst (Stores h) (same_more is) (of, at)
 
-  stores_move : (h : Held) (head : Head) (ms : List Mark) (cs : List (List Move)) (mv : List Move) (due w : ℕ) (x : Move) (e : Draft) → Keeps h head ms (cs ++ (mv ∷ [])) → h.open_cell ≡ length cs → length mv + suc due ≤ 8
+  stores_move : (h : Held) (head : Head) (ms : List Mark) (cs : List (List Move)) (mv : List Move) (due w : ℕ) (x : Move) (e : Draft) → Keeps h head ms (cs ++ (mv ∷ [])) → h.at ≡ length cs → length mv + suc due ≤ 8
       → move_of head.states w ≡ Ok x → read_move head ms cs mv due x ≡ more e → (kind w ≡ 5) × Stores (with_move h w) e
   stores_move h head ms cs mv due w x e of at few said is =
       let s = move_fields head.states w x said in

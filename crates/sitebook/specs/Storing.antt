@@ -14,40 +14,40 @@ use Rattle.sitebook.specs.Tables.{site_of}
 pub record Held : Type 0 where
   pub book : Site
   pub mask : ℕ
-  pub open_cell : ℕ
+  pub at : ℕ
 
 abbrev pub held : Store → Held
-held s = record { book = site_of s.tables; mask = s.mask; open_cell = s.open }
+held s = record { book = site_of s.tables; mask = s.mask; at = s.at }
 
 -- no state, and n cells that offer nothing
 abbrev pub nothing : ℕ → Held
-nothing n = record { book = record { labels = 0; actions = 0; marks = []; cells = replicate n [] }; mask = 0; open_cell = 0 }
+nothing n = record { book = record { labels = 0; actions = 0; marks = []; cells = replicate n [] }; mask = 0; at = 0 }
 
 -- the head
 abbrev pub with_head : Held → ℕ → Held
-with_head h w = record { book = record { labels = (head_in w).labels; actions = (head_in w).actions; marks = h.book.marks; cells = h.book.cells }; mask = h.mask; open_cell = h.open_cell }
+with_head h w = record { book = record { labels = (head_in w).labels; actions = (head_in w).actions; marks = h.book.marks; cells = h.book.cells }; mask = h.mask; at = h.at }
 
 -- a mask, whose reward is due
 abbrev pub with_mask : Held → ℕ → Held
-with_mask h w = record { book = h.book; mask = mask_in w; open_cell = h.open_cell }
+with_mask h w = record { book = h.book; mask = mask_in w; at = h.at }
 
 abbrev pub with_mark : Held → ℕ → Held
 with_mark h w = record {
   book = record { labels = h.book.labels; actions = h.book.actions; marks = h.book.marks ++ (record { mask = h.mask; worth = worth_in w } ∷ []); cells = h.book.cells };
   mask = h.mask;
-  open_cell = h.open_cell;
+  at = h.at;
 }
 
 -- an entry opens its cell
 abbrev pub with_entry : Held → ℕ → Held
-with_entry h w = record { book = h.book; mask = h.mask; open_cell = (entry_in w).state * h.book.actions + (entry_in w).action }
+with_entry h w = record { book = h.book; mask = h.mask; at = (entry_in w).state * h.book.actions + (entry_in w).action }
 
 -- an outcome more in the open cell, which has at most eight
 abbrev pub with_move : Held → ℕ → Held
 with_move h w = record {
-  book = record { labels = h.book.labels; actions = h.book.actions; marks = h.book.marks; cells = slice_set h.book.cells h.open_cell (take 8 (slice_index_or h.book.cells h.open_cell [] ++ (move_in w ∷ []))) };
+  book = record { labels = h.book.labels; actions = h.book.actions; marks = h.book.marks; cells = slice_set h.book.cells h.at (take 8 (slice_index_or h.book.cells h.at [] ++ (move_in w ∷ []))) };
   mask = h.mask;
-  open_cell = h.open_cell;
+  at = h.at;
 }
 
 abbrev pub put_as : Result Kind Refusal → Held → ℕ → Held

@@ -8,12 +8,12 @@ use sitelayout::{Kind, Mark, entry_in, head_in, mask_in, move_in, worth_in};
 use siteverdict::Counts;
 use std::alloc::{AllocError, Global};
 
-// `mask` is that of the state whose reward is due, and `open` the place of the cell whose outcomes are.
+// `mask` is that of the state whose reward is due, and `at` the place of the cell whose outcomes are.
 #[derive(Drop)]
 pub struct Store {
     pub tables: Tables,
     pub mask: u32,
-    pub open: usize,
+    pub at: usize,
 }
 
 impl Store {
@@ -33,7 +33,7 @@ impl Store {
                 cells,
             },
             mask: 0,
-            open: 0,
+            at: 0,
         })
     }
 
@@ -55,10 +55,10 @@ impl Store {
             Ok(Kind::Entry) => {
                 let entry = entry_in(word);
                 let row = entry.state as usize * self.tables.actions as usize;
-                self.open = row + entry.action as usize;
+                self.at = row + entry.action as usize;
             }
             Ok(Kind::Move) => {
-                if let Some(cell) = self.tables.cells.get_mut(self.open) {
+                if let Some(cell) = self.tables.cells.get_mut(self.at) {
                     // There is room: an entry has at most eight outcomes.
                     let _ = cell.push(move_in(word));
                 }
