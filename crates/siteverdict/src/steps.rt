@@ -106,7 +106,7 @@ impl Marks {
 
 impl Table {
     // Entries rise strictly by state and action.
-    fn entry(self, word: u32) -> Result<Open, Refusal>
+    fn entry(mut self, word: u32) -> Result<Open, Refusal>
         ensures { (d : layout.Draft) → AtEntry self d → (kind word ≡ number_of End → ⊥) → Leads AtMove (read_word d word) result }
     {
         let head = self.counts.head;
@@ -115,13 +115,9 @@ impl Table {
         if place < self.cells {
             return Err(Refusal::NotRising);
         }
+        self.cells = place;
         Ok(Open {
-            // Written out: the kit takes no `..self` in a literal of a struct with ghost fields.
-            table: Table {
-                counts: self.counts,
-                cells: place,
-                waits: self.waits,
-            },
+            table: self,
             due: entry.outcomes - 1,
             total: 0,
             targets: Bounded::new(),
