@@ -16,9 +16,9 @@ use Rattle.truth.specs.Truth.{Trace, holds}
 use Rattle.truth.proofs.Unfolding.{holds_local}
 use Rattle.wishbook.specs.Book.{Book, items_over}
 use Rattle.wishlayout.specs.declared.Wish.{Wish}
-use Rattle.wishlayout.specs.Wishes.{good_wish}
+use Rattle.wishlayout.specs.Wishes.{amount, good_wish}
 use Rattle.words.specs.Tests.{all}
-use Rattle.layer.specs.Judging.{wish_held, recalled, verdict, verdicts_from, verdicts, item_held, memory_of, bits_of_wishes, amount, earned}
+use Rattle.layer.specs.Judging.{wish_held, recalled, verdict, verdicts_from, verdicts, item_held, memory_of, bits_of_wishes, earned}
 use Rattle.formula.specs.declared.Item.{Item}
 use Rattle.std.proofs.ByRecursion.{has_append_right}
 use Rattle.std.proofs.lemmas.List.{length-map, get_or-map}

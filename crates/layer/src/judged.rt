@@ -1,7 +1,6 @@
 // A wish book in a state: the truth of each of its nodes there, and what the state comes to.
 ghost use Rattle.std.specs.Prelude.{◌≡◌, length};
 
-use crate::amounts::amount;
 use crate::counts::{remember, wish_bits};
 use crate::judging::{at, judge};
 use wishbook::WishBook;
@@ -61,7 +60,7 @@ impl<'a> Judged<'a> {
         let mut total = sum;
         for wish in self.book.wishes() {
             if at(known, wish.node) {
-                total += amount(*wish);
+                total += wish.amount();
             }
         }
         total
