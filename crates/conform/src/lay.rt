@@ -2,7 +2,7 @@
 use crate::failure::Failure;
 use crate::unhex;
 use ground::GroundBook;
-use layer::lay;
+use layer::Layer;
 use model::SiteModel;
 use pile::{Three, stack};
 use rulebook::read_rule;
@@ -51,7 +51,7 @@ fn lay_all(ground: Ground, wishes: &[&str]) -> Result<String, Failure> {
     for hex in wishes {
         let pile = ground.pile(laid)?;
         let book = wish_of(heap, hex)?;
-        match lay(pile, book).1 {
+        match Layer::new(pile, Some(book)).refusal() {
             Some(refusal) => {
                 let number = refusal.number().unwrap_or(0);
                 text.push_str(format!(in heap; "{number} ")?.as_str())?;
