@@ -9,58 +9,34 @@ ghost use Rattle.rulebook.specs.Contents.{contents, verdict_from};
 
 use crate::action::Action;
 use crate::book::RuleBook;
-use crate::stage::{Stage, Table};
+use crate::stage::{Open, Stage, Table};
 use bounded::Bounded;
 use refusal::{Fault, Refusal};
-use rulelayout::{Effect, Kind, Masks, read_head, read_masks, total_weight};
+use rulelayout::{Effect, Kind, read_head, read_masks, total_weight};
 use words::{Draft, Turn, open, read};
 
-// With these outcomes of the last action read. While an action is due there is room for it.
-fn filled(mut table: Table, action: Masks, effects: Bounded<Effect, 8>) -> Result<Stage, Refusal>
-    ensures { length (list_from table) < 8 → step_from result ≡ filled table.head (list_from table) action (listed effects) }
-{
-    if effects.len() < action.count as usize {
-        return Ok(Stage::Inside(table, action, effects));
-    }
-    if total_weight(&effects) != Some(8) {
-        return Err(Refusal::WrongTotal);
-    }
-    let _ = table.acts.push(Action {
-        on: action.first,
-        off: action.second,
-        effects,
-    });
-    if table.acts.len() < table.head.actions as usize {
-        Ok(Stage::Listing(table))
-    } else {
-        Ok(Stage::Whole(table))
-    }
-}
-
-// What is due after one word more, or nothing at the end word. While an outcome is due there is room for it.
-#[tactic(auto, unfolding(rulelayout::specs::Layout::read_word))]
-fn next(stage: Stage, word: u32) -> Result<Option<Stage>, Refusal>
-    requires { Sound (draft_from stage) }
-    ensures { turn_from result ≡ read_word (draft_from stage) word }
-{
-    match stage {
-        Stage::Blank => {
-            let head = read_head(word)?;
-            let acts = Bounded::new();
-            Ok(Some(Stage::Listing(Table { head, acts })))
+impl Open {
+    // What is due after one outcome more. While an outcome is due there is room for it, and for its action.
+    fn with(mut self, effect: Effect) -> Result<Stage, Refusal>
+        ensures { length (list_from self.table) < 8 → length (listed self.effects) < 8 → step_from result ≡ filled self.table.head (list_from self.table) self.action (listed self.effects ++ effect ∷ []) }
+    {
+        let _ = self.effects.push(effect);
+        if self.effects.len() < self.action.count as usize {
+            return Ok(Stage::Inside(self));
         }
-        Stage::Listing(table) => {
-            let action = read_masks(Kind::Action as u32, table.head.switches as u32, word)?;
-            Ok(Some(Stage::Inside(table, action, Bounded::new())))
+        if total_weight(&self.effects) != Some(8) {
+            return Err(Refusal::WrongTotal);
         }
-        Stage::Inside(table, action, mut effects) => {
-            let masks = read_masks(Kind::Outcome as u32, table.head.switches as u32, word)?;
-            let _ = effects.push(masks.into());
-            Ok(Some(filled(table, action, effects)?))
-        }
-        Stage::Whole(_) => {
-            open(word, Kind::End as u32, 28)?;
-            Ok(None)
+        let mut table = self.table;
+        let _ = table.acts.push(Action {
+            on: self.action.first,
+            off: self.action.second,
+            effects: self.effects,
+        });
+        if table.acts.len() < table.head.actions as usize {
+            Ok(Stage::Listing(table))
+        } else {
+            Ok(Stage::Whole(table))
         }
     }
 }
@@ -77,6 +53,41 @@ fn needless(action: &Action) -> bool
 struct Reading {
     stage: Stage,
     ghost sound: { Sound (draft_from stage) } by { sound-prop (draft_from stage) },
+}
+
+impl Reading {
+    // What is due after one word more, or nothing at the end word. A draft is a state machine: what is due says what a word means, so
+    // that each stage has an arm.
+    #[tactic(auto, unfolding(rulelayout::specs::Layout::read_word))]
+    fn next(&self, word: u32) -> Result<Option<Stage>, Refusal>
+        ensures { turn_from result ≡ read_word (draft_from self.now.stage) word }
+    {
+        match self.stage {
+            Stage::Blank => {
+                let head = read_head(word)?;
+                let acts = Bounded::new();
+                Ok(Some(Stage::Listing(Table { head, acts })))
+            }
+            Stage::Listing(table) => {
+                let action = read_masks(Kind::Action as u32, table.head.switches as u32, word)?;
+                let effects = Bounded::new();
+                Ok(Some(Stage::Inside(Open {
+                    table,
+                    action,
+                    effects,
+                })))
+            }
+            Stage::Inside(inside) => {
+                let switches = inside.table.head.switches as u32;
+                let masks = read_masks(Kind::Outcome as u32, switches, word)?;
+                Ok(Some(inside.with(masks.into())?))
+            }
+            Stage::Whole(_) => {
+                open(word, Kind::End as u32, 28)?;
+                Ok(None)
+            }
+        }
+    }
 }
 
 impl Draft for Reading {
@@ -100,7 +111,7 @@ impl Draft for Reading {
 
     #[tactic(auto, using(rulelayout::proofs::Faithful::sound_steps))]
     fn step(&mut self, word: u32) -> Result<Turn, Refusal> {
-        match next(self.stage, word)? {
+        match self.next(word)? {
             Some(stage) => {
                 *self = Reading { stage };
                 Ok(Turn::More)
