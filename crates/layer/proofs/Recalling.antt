@@ -1,5 +1,6 @@
 -- What a memory recalls: of its items, what was remembered of each; and nothing else. An empty memory recalls nothing.
 use Rattle.std.proofs.Common.{◌≡◌, ℕ, zero, suc, ◌+◌, ◌*◌, ◌/◌, ◌%◌, Bool, true, false, ◌&&◌, ◌||◌, eqb, List, [], ◌∷◌, sym, refl, ap, ◌∙◌, subst, inl, inr, arith}
+use Rattle.std.proofs.Math.Bool.{and-false}
 use Rattle.std.specs.List.{ContainsAt as Has}
 use Rattle.std.proofs.lemmas.Bool.{cases_Bool, both_ways, and_parts, and_from, or_cases, or_left, or_right, eqb-true, eq-eqb}
 use Rattle.formula.specs.declared.Item.{Item}
@@ -20,7 +21,7 @@ low_bit : (b : Bool) (m : ℕ) → eqb ((bit b + 2 * m) % 2) 1 ≡ b
 low_bit true m = eq-eqb ((1 + 2 * m) % 2) 1 (omega arith)
 low_bit false m = let z : (0 + 2 * m) % 2 ≡ 0 = omega arith in ap (λ n. eqb n 1) z
 
-high_bits : (b : Bool) (m : ℕ) → (bit b + 2 * m) / 2 ≡ m
+pub high_bits : (b : Bool) (m : ℕ) → (bit b + 2 * m) / 2 ≡ m
 high_bits true m = omega arith
 high_bits false m = omega arith
 
@@ -58,8 +59,4 @@ module _ (vs : List Bool) where
 
 pub recalled_empty : (items : List Item) (x : Item) → recalled items 0 x ≡ false
 recalled_empty [] x = refl
-recalled_empty (y ∷ items) x = λ k. and_none (same_item x y) k || recalled_empty items x k
-  where
-    and_none : (b : Bool) → (b && false) ≡ false
-    and_none true = refl
-    and_none false = refl
+recalled_empty (y ∷ items) x = λ k. and-false (same_item x y) k || recalled_empty items x k
