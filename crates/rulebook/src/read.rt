@@ -56,8 +56,8 @@ struct Reading {
 }
 
 impl Reading {
-    // What is due after one word more, or nothing at the end word. A draft is a state machine: what is due says what a word means, so
-    // that each stage has an arm.
+    // What is due after one word more, or nothing at the end word. A draft is a state machine: the same word means another thing at each
+    // stage, so that each has an arm.
     #[tactic(auto, unfolding(rulelayout::specs::Layout::read_word))]
     fn next(&self, word: u32) -> Result<Option<Stage>, Refusal>
         ensures { turn_from result ≡ read_word (draft_from self.now.stage) word }
