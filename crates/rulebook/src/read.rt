@@ -3,7 +3,8 @@ ghost use Rattle.std.specs.Prelude.{◌≡◌, ◌<◌, true, ◌&&◌, [], ◌�
 ghost use Rattle.bounded.specs.Listed.{listed};
 ghost use Rattle.words.specs.Format.{Faithful, reading};
 ghost use Rattle.rulelayout.specs.Rule.{Rule, valid};
-ghost use Rattle.rulelayout.specs.Layout.{Draft as Words, rule_format, rule_words, read_word, whole_rule, filled, Sound, sound-prop};
+ghost use Rattle.rulelayout.specs.Layout.{Draft as Words, listed as acts_read, rule_format, rule_words, read_word, whole_rule, filled, Sound, sound-prop};
+ghost use Rattle.rulebook.specs.Acts.{act_from};
 ghost use Rattle.rulebook.specs.Drafts.{list_from, draft_from, step_from, turn_from};
 ghost use Rattle.rulebook.specs.Contents.{contents, verdict_from};
 
@@ -14,6 +15,20 @@ use bounded::Bounded;
 use refusal::{Fault, Refusal};
 use rulelayout::{Effect, Kind, read_head, read_masks, total_weight};
 use words::{Draft, Turn, open, read};
+
+impl Table {
+    // What is due after one action more. While an action is due there is room for it.
+    fn with(mut self, action: Action) -> Stage
+        ensures { length (list_from self) < 8 → draft_from result ≡ acts_read self.head (list_from self ++ act_from action ∷ []) }
+    {
+        let _ = self.acts.push(action);
+        if self.acts.len() < self.head.actions as usize {
+            Stage::Listing(self)
+        } else {
+            Stage::Whole(self)
+        }
+    }
+}
 
 impl Open {
     // What is due after one outcome more. While an outcome is due there is room for it, and for its action.
@@ -27,17 +42,13 @@ impl Open {
         if total_weight(&self.effects) != Some(8) {
             return Err(Refusal::WrongTotal);
         }
-        let mut table = self.table;
-        let _ = table.acts.push(Action {
-            on: self.action.first,
-            off: self.action.second,
-            effects: self.effects,
-        });
-        if table.acts.len() < table.head.actions as usize {
-            Ok(Stage::Listing(table))
-        } else {
-            Ok(Stage::Whole(table))
-        }
+        Ok(
+            self.table.with(Action {
+                on: self.action.first,
+                off: self.action.second,
+                effects: self.effects,
+            }),
+        )
     }
 }
 
