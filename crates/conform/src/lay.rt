@@ -3,7 +3,7 @@ use crate::failure::Failure;
 use crate::kind::Kind;
 use crate::unhex;
 use ground::GroundBook;
-use layer::lay;
+use layer::Layer;
 use model::SiteModel;
 use pile::{Three, stack};
 use rulebook::read_rule;
@@ -57,7 +57,7 @@ fn lay_all(ground: Ground, wishes: &[&str]) -> Result<String, Failure> {
     for hex in wishes {
         let pile = ground.pile(laid.as_slice())?;
         let book = wish_of(heap, hex).map_err(unreadable)?;
-        match lay(pile, book).1 {
+        match Layer::new(pile, Some(book)).refusal() {
             Some(refusal) => {
                 let number = refusal.number();
                 text.push_str(format!(in heap; "{number} ")?.as_str())?;

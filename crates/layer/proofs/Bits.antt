@@ -1,6 +1,6 @@
 -- The bits of a memory and of a mask, one by one.
-use Rattle.std.proofs.Common.{◌≡◌, ℕ, zero, suc, ◌+◌, ◌*◌, ◌/◌, ◌%◌, ◌^◌, ◌<◌, Bool, true, false, eqb, List, [], ◌∷◌, length, get_or, sym, ap, ◌∙◌, subst, mul_comm, add_comm, arith, pow_pos}
-use native.Mathlib.Nat.{div-eq_of_lt}
+use Rattle.std.proofs.Common.{◌≡◌, ℕ, zero, suc, ◌+◌, ◌*◌, ◌/◌, ◌%◌, ◌^◌, ◌<◌, Bool, true, false, eqb, List, [], ◌∷◌, length, get_or, sym, ap, ◌∙◌, subst, mul_comm, add_comm, arith}
+use native.Mathlib.Nat.{zero-div}
 use Rattle.std.specs.List.{ContainsAt as Has}
 use Rattle.std.proofs.lemmas.Nat.{shr-shr, shr_high}
 use Rattle.std.proofs.ByRecursion.{has_get_or}
@@ -14,6 +14,7 @@ use Rattle.words.specs.Tests.{all}
 use Rattle.words.proofs.Tests.{all_at}
 use Rattle.wishlayout.specs.Wishes.{good_wish}
 use Rattle.layer.specs.Judging.{bit, bits_of, item_held, wish_held, bits_of_wishes}
+use Rattle.layer.proofs.Recalling.{high_bits}
 use Rattle.layer.proofs.Verdicts.{item_told}
 use Rattle.layer.specs.Records.{trace_of, end_of, truths, MemoryTells, WishesShow}
 
@@ -23,19 +24,11 @@ low false m = let z : (0 + 2 * m) / 1 % 2 ≡ 0 = omega arith in ap (λ n. eqb n
 
 higher : (b : Bool) (m k : ℕ) → labelled (bit b + 2 * m) (suc k) ≡ labelled m k
 higher b m k =
-    let half : (bit b + 2 * m) / 2 ≡ m = half_of b m in
     ap (λ p. eqb ((bit b + 2 * m) / 2 ^ p % 2) 1) (one_more k)
-    ∙ ap (λ x. eqb (x % 2) 1) (sym (shr-shr (bit b + 2 * m) 1 k) ∙ ap (λ x. x / 2 ^ k) half)
+    ∙ ap (λ x. eqb (x % 2) 1) (sym (shr-shr (bit b + 2 * m) 1 k) ∙ ap (λ x. x / 2 ^ k) (high_bits b m))
   where
-    half_of : (b : Bool) (m : ℕ) → (bit b + 2 * m) / 2 ≡ m
-    half_of true m = omega arith
-    half_of false m = omega arith
-
     one_more : (k : ℕ) → suc k ≡ 1 + k
     one_more k = omega arith
-
-zero_div : (k : ℕ) → 0 / 2 ^ k ≡ 0
-zero_div k = div-eq_of_lt (pow_pos k)
 
 -- bit k of a number from bits is that of x number k
 bits_bit : {X : Type 0} (holds : X → Bool) (xs : List X) (k : ℕ) (d : X) → k < length xs → labelled (bits_of holds xs) k ≡ holds (get_or xs k d)
@@ -44,7 +37,7 @@ bits_bit holds (x ∷ xs) zero d l = low (holds x) (bits_of holds xs)
 bits_bit holds (x ∷ xs) (suc k) d l = higher (holds x) (bits_of holds xs) k ∙ bits_bit holds xs k d (omega arith)
 
 empty_bit : (k : ℕ) → labelled 0 k ≡ false
-empty_bit k = ap (λ x. eqb (x % 2) 1) (zero_div k)
+empty_bit k = ap (λ x. eqb (x % 2) 1) (zero-div (2 ^ k))
 
 pub memory_tells : MemoryTells
 memory_tells b ok τ zero k l = empty_bit k

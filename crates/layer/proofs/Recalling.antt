@@ -1,18 +1,11 @@
 -- What a memory recalls: of its items, what was remembered of each; and nothing else. An empty memory recalls nothing.
-use Rattle.std.proofs.Common.{◌≡◌, ℕ, zero, suc, ◌+◌, ◌*◌, ◌/◌, ◌%◌, ◌<◌, ◌≤◌, Bool, true, false, ◌&&◌, ◌||◌, eqb, List, [], ◌∷◌, map, length, sym, refl, ap, ◌∙◌, subst, inl, inr, arith}
+use Rattle.std.proofs.Common.{◌≡◌, ℕ, zero, suc, ◌+◌, ◌*◌, ◌/◌, ◌%◌, Bool, true, false, ◌&&◌, ◌||◌, eqb, List, [], ◌∷◌, sym, refl, ap, ◌∙◌, subst, inl, inr, arith}
+use Rattle.std.proofs.Math.Bool.{and-false}
 use Rattle.std.specs.List.{ContainsAt as Has}
-use Rattle.std.proofs.ByRecursion.{has_append_right}
-use Rattle.std.proofs.lemmas.List.{get_or_past}
-use Rattle.std.proofs.lemmas.Bool.{cases_Bool, cases_lt, both_ways, and_parts, and_from, or_cases, or_left, or_right, eqb-true, eq-eqb}
+use Rattle.std.proofs.lemmas.Bool.{cases_Bool, both_ways, and_parts, and_from, or_cases, or_left, or_right, eqb-true, eq-eqb}
 use Rattle.formula.specs.declared.Item.{Item}
 use Rattle.formula.specs.declared.Item.TheVariants.{Held, Failed}
-use Rattle.formula.specs.Resting.{resting}
-use Rattle.formula.proofs.Chosen.{selected}
-use Rattle.wishbook.specs.Book.{Book}
-use Rattle.layer.specs.declared.recalled.Recalled.{Recalled}
-use Rattle.layer.specs.Judging.{node_of, same_item, recalled, bit, item_held, memory_of}
-use Rattle.layer.specs.Records.{SoundBook}
-use Rattle.layer.specs.Tables.{told}
+use Rattle.layer.specs.Judging.{same_item, recalled, bit, item_held, memory_of}
 
 same_is : (x y : Item) → same_item x y ≡ true → x ≡ y
 same_is (Held i) (Held j) e = ap Held (eqb-true i j e)
@@ -28,18 +21,9 @@ low_bit : (b : Bool) (m : ℕ) → eqb ((bit b + 2 * m) % 2) 1 ≡ b
 low_bit true m = eq-eqb ((1 + 2 * m) % 2) 1 (omega arith)
 low_bit false m = let z : (0 + 2 * m) % 2 ≡ 0 = omega arith in ap (λ n. eqb n 1) z
 
-high_bits : (b : Bool) (m : ℕ) → (bit b + 2 * m) / 2 ≡ m
+pub high_bits : (b : Bool) (m : ℕ) → (bit b + 2 * m) / 2 ≡ m
 high_bits true m = omega arith
 high_bits false m = omega arith
-
--- only items are recalled
-recalled_has : (items : List Item) (m : ℕ) (x : Item) → recalled items m x ≡ true → Has items x
-recalled_has [] m x e = absurd (both_ways false refl e)
-recalled_has (y ∷ items) m x e =
-    elim (or_cases (same_item x y && eqb (m % 2) 1) (recalled items (m / 2) x) e) [
-      | inl here ↦ (0, omega arith, λ d. sym (same_is x y (and_parts (same_item x y) (eqb (m % 2) 1) here).0))
-      | inr later ↦ has_append_right (y ∷ []) items x (recalled_has items (m / 2) x later)
-    ]
 
 module _ (vs : List Bool) where
   step : (y : Item) (items : List Item) (x : Item) → recalled (y ∷ items) (memory_of (y ∷ items) vs) x ≡ ((same_item x y && item_held vs y) || recalled items (memory_of items vs) x)
@@ -75,26 +59,4 @@ module _ (vs : List Bool) where
 
 pub recalled_empty : (items : List Item) (x : Item) → recalled items 0 x ≡ false
 recalled_empty [] x = refl
-recalled_empty (y ∷ items) x = λ k. and_none (same_item x y) k || recalled_empty items x k
-  where
-    and_none : (b : Bool) → (b && false) ≡ false
-    and_none true = refl
-    and_none false = refl
-
--- a sound book of at most 128 nodes
-module _ (b : Book) (ok : SoundBook b) (few : length b.nodes ≤ 128) (m : ℕ) where
-  item_below : (x : Item) → Has b.items x → node_of x < 128
-  item_below (Held i) has = omega (arith, ((selected b.nodes (resting b.nodes (map (λ w. w.node) b.wishes))).held_only i (subst (λ xs. Has xs (Held i)) ok.remembers has)).0)
-  item_below (Failed i) has = omega (arith, ((selected b.nodes (resting b.nodes (map (λ w. w.node) b.wishes))).failed_only i (subst (λ xs. Has xs (Failed i)) ok.remembers has)).0)
-
-  past : (x : Item) → 128 ≤ node_of x → false ≡ recalled b.items m x
-  past x far =
-      elim (cases_Bool (recalled b.items m x)) [
-        | inl t ↦ let near = item_below x (recalled_has b.items m x t) in absurd (omega arith)
-        | inr f ↦ sym f
-      ]
-
-  -- tables that tell what is recalled below 128 tell all of it
-  pub tables_recall : (r : Recalled) → ((i : ℕ) → i < 128 → told r (Held i) ≡ recalled b.items m (Held i)) → ((i : ℕ) → i < 128 → told r (Failed i) ≡ recalled b.items m (Failed i)) → (x : Item) → told r x ≡ recalled b.items m x
-  tables_recall r held failed (Held i) = elim (cases_lt i 128) [ inl l ↦ held i l | inr far ↦ get_or_past r.held i false (omega (arith, r.sizes.0)) ∙ past (Held i) far ]
-  tables_recall r held failed (Failed i) = elim (cases_lt i 128) [ inl l ↦ failed i l | inr far ↦ get_or_past r.failed i false (omega (arith, r.sizes.1)) ∙ past (Failed i) far ]
+recalled_empty (y ∷ items) x = λ k. and-false (same_item x y) k || recalled_empty items x k

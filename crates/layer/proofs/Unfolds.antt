@@ -12,13 +12,13 @@ use Rattle.formula.proofs.Marks.{exact}
 use Rattle.model.specs.Histories.{final, History, begun, onward, along, Unfolds}
 use Rattle.model.specs.declared.Outcome.{Outcome}
 use Rattle.model.specs.Models.{Model}
-use Rattle.truth.specs.Truth.{Trace, holds}
+use Rattle.truth.specs.Truth.{Trace}
 use Rattle.truth.proofs.Unfolding.{holds_local}
 use Rattle.wishbook.specs.Book.{Book, items_over}
 use Rattle.wishlayout.specs.declared.Wish.{Wish}
-use Rattle.wishlayout.specs.Wishes.{good_wish}
+use Rattle.wishlayout.specs.Wishes.{amount, good_wish}
 use Rattle.words.specs.Tests.{all}
-use Rattle.layer.specs.Judging.{wish_held, recalled, verdict, verdicts_from, verdicts, item_held, memory_of, bits_of_wishes, amount, earned}
+use Rattle.layer.specs.Judging.{wish_held, recalled, verdict, verdicts_from, verdicts, item_held, memory_of, bits_of_wishes, earned}
 use Rattle.formula.specs.declared.Item.{Item}
 use Rattle.std.proofs.ByRecursion.{has_append_right}
 use Rattle.std.proofs.lemmas.List.{length-map, get_or-map}
@@ -41,12 +41,8 @@ trace_end mask h some = ap mask (take_all (length h - 1 + 1) h (omega arith))
 trace_before : (mask : List ℕ → ℕ) (h : List ℕ) (t : ℕ) (i : ℕ) → i < length h → trace_of mask (h ++ (t ∷ [])) i ≡ trace_of mask h i
 trace_before mask h t i l = ap mask (take-append-le (i + 1) h (t ∷ []) (omega arith))
 
-map_same : {X Y : Type 0} (f k : X → Y) (xs : List X) → ((x : X) → f x ≡ k x) → map f xs ≡ map k xs
-map_same f k [] h = refl
-map_same f k (x ∷ xs) h = λ i. h x i ∷ map_same f k xs h i
-
 truths_before : (ns : List Node) (mask : List ℕ → ℕ) (h : List ℕ) (t : ℕ) → 1 ≤ length h → truths ns (trace_of mask (h ++ (t ∷ []))) (end_of h) ≡ truths ns (trace_of mask h) (end_of h)
-truths_before ns mask h t some = map_same (λ f. holds f (trace_of mask (h ++ (t ∷ []))) (end_of h)) (λ f. holds f (trace_of mask h) (end_of h)) (formulas ns) (λ f. holds_local f (trace_of mask (h ++ (t ∷ []))) (trace_of mask h) (end_of h) (λ j le. trace_before mask h t j (omega arith)))
+truths_before ns mask h t some = λ i. map (λ f. holds_local f (trace_of mask (h ++ (t ∷ []))) (trace_of mask h) (end_of h) (λ j le. trace_before mask h t j (omega arith)) i) (formulas ns)
 
 verdicts-length : (mask : ℕ) (r : Item → Bool) (known : List Bool) (ns : List Node) → length (verdicts_from mask r known ns) ≡ length known + length ns
 verdicts-length mask r known [] = omega arith
@@ -150,5 +146,5 @@ module _ (g m : Model) (code mask : List ℕ → ℕ) (reward : List ℕ → ℤ
         ap (λ b. cond b (map (lifted m book (s h hist)) (m.outcomes (under (s h hist)) a)) []) (state_is h hist)
         ∙ ap (map (lifted m book (s h hist))) (ap (λ k. m.outcomes k a) (under_is h hist) ∙ u.moves h hist a)
         ∙ map-map (lifted m book (s h hist)) (along code h) (g.outcomes (final h) a)
-        ∙ map_same (λ o. lifted m book (s h hist) (along code h o)) (along (code_over code mask book) h) (g.outcomes (final h) a) (lifted_is h hist);
+        ∙ (λ i. map (λ o. lifted_is h hist o i) (g.outcomes (final h) a));
   }

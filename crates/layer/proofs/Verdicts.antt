@@ -1,6 +1,7 @@
 -- Bits meet truth: where the remembered bits tell the truth of one position earlier, the verdict on every node that a wish rests on is
 -- what the truth lines say at this position, and so the next memory tells the truth of this one.
 use Rattle.std.proofs.Common.{◌≡◌, ℕ, zero, suc, ◌+◌, ◌<◌, Bool, true, false, not, ◌&&◌, ◌||◌, ltb, List, [], ◌∷◌, ◌++◌, map, length, get_or, sym, refl, ap, ◌∙◌, subst, inl, inr, append_assoc, arith, length-append}
+use Rattle.std.proofs.Math.Bool.{and-false, not-not}
 use Rattle.std.specs.List.{ContainsAt as Has}
 use Rattle.std.proofs.lemmas.List.{get_or_at, get_or_append_left, get_or_push, get_or-map, length_push}
 use Rattle.std.proofs.lemmas.Bool.{and_parts, ltb-true, cases_lt}
@@ -22,10 +23,6 @@ use Rattle.wishbook.specs.Book.{Book, items_over}
 use Rattle.wishlayout.specs.declared.Wish.{Wish}
 use Rattle.layer.proofs.Counting.{bits_same}
 use Rattle.layer.proofs.Recalling.{item_recalls, recalled_empty}
-
-before_same : (n : ℕ) (P Q : ℕ → Bool) → ((j : ℕ) → P j ≡ Q j) → before n P ≡ before n Q
-before_same zero P Q h = refl
-before_same (suc n) P Q h = h n
 
 module _ (ns : List Node) (ws : List Wish) (ok : earlier ns ≡ true) (τ : Trace) where
   abbrev roots : List ℕ
@@ -66,20 +63,12 @@ module _ (ns : List Node) (ws : List Wish) (ok : earlier ns ≡ true) (τ : Trac
   only_operand a = (0, omega arith, λ d. refl)
 
   since_holds : (n : ℕ) (a b : Formula) (held x y : Bool) → held ≡ before n (λ j. holds (since a b) τ j) → x ≡ holds a τ n → y ≡ holds b τ n → ((x && held) || y) ≡ holds (since a b) τ n
-  since_holds zero a b held x y h ex ey = (λ k. (x && h k) || y) ∙ ap (λ t. t || y) (none_and x) ∙ ey ∙ sym (since_first a b τ)
-    where
-      none_and : (t : Bool) → (t && false) ≡ false
-      none_and true = refl
-      none_and false = refl
+  since_holds zero a b held x y h ex ey = (λ k. (x && h k) || y) ∙ ap (λ t. t || y) (and-false x) ∙ ey ∙ sym (since_first a b τ)
   since_holds (suc n) a b held x y h ex ey = (λ k. (ex k && h k) || ey k) ∙ sym (since_next a b τ n)
 
   always_holds : (n : ℕ) (a : Formula) (failed x : Bool) → failed ≡ before n (λ j. not (holds (always a) τ j)) → x ≡ holds a τ n → (not failed && x) ≡ holds (always a) τ n
   always_holds zero a failed x h ex = (λ k. not (h k) && ex k) ∙ sym (always_first a τ)
-  always_holds (suc n) a failed x h ex = (λ k. not (h k) && ex k) ∙ ap (λ t. t && holds a τ (suc n)) (not_not (holds (always a) τ n)) ∙ sym (always_next a τ n)
-    where
-      not_not : (t : Bool) → not (not t) ≡ t
-      not_not true = refl
-      not_not false = refl
+  always_holds (suc n) a failed x h ex = (λ k. not (h k) && ex k) ∙ ap (λ t. t && holds a τ (suc n)) (not-not (holds (always a) τ n)) ∙ sym (always_next a τ n)
 
   sometime_holds : (n : ℕ) (a : Formula) (held x : Bool) → held ≡ before n (λ j. holds (sometime a) τ j) → x ≡ holds a τ n → (held || x) ≡ holds (sometime a) τ n
   sometime_holds zero a held x h ex = (λ k. h k || ex k) ∙ sym (sometime_first a τ)
@@ -112,20 +101,20 @@ module _ (ns : List Node) (ws : List Wish) (ok : earlier ns ≡ true) (τ : Trac
         let has = (selected ns (resting ns roots)).held_kept here l u (inl (ap lasting is)) in
         let tree : (j : ℕ) → true_at j here ≡ holds (tree_of (formulas ns) (Since a b)) τ j = λ j. ap (λ f. holds f τ j) (formulas_at ns here ok l ∙ ap (tree_of (formulas ns)) is) in
         since_holds n (get_or (formulas ns) a truth) (get_or (formulas ns) b truth) (r (Held here)) (get_or known a false) (get_or known b false)
-        (recalls (Held here) has ∙ before_same n (λ j. true_at j here) (λ j. holds (tree_of (formulas ns) (Since a b)) τ j) tree)
+        (recalls (Held here) has ∙ (λ i. before n (λ j. tree j i)))
         (known_at a l (ltb-true a here low.0) u (subst (λ m. Has (operands m) a) (sym is) (first_operand a b)))
         (known_at b l (ltb-true b here low.1) u (subst (λ m. Has (operands m) b) (sym is) (second_operand a b)))
     verdict_kind (Always a) is l u o =
         let has = (selected ns (resting ns roots)).failed_kept here l u (ap is_always is) in
         let tree : (j : ℕ) → not (true_at j here) ≡ not (holds (tree_of (formulas ns) (Always a)) τ j) = λ j. ap (λ f. not (holds f τ j)) (formulas_at ns here ok l ∙ ap (tree_of (formulas ns)) is) in
         always_holds n (get_or (formulas ns) a truth) (r (Failed here)) (get_or known a false)
-        (recalls (Failed here) has ∙ before_same n (λ j. not (true_at j here)) (λ j. not (holds (tree_of (formulas ns) (Always a)) τ j)) tree)
+        (recalls (Failed here) has ∙ (λ i. before n (λ j. tree j i)))
         (known_at a l (ltb-true a here o) u (subst (λ m. Has (operands m) a) (sym is) (only_operand a)))
     verdict_kind (Once a) is l u o =
         let has = (selected ns (resting ns roots)).held_kept here l u (inl (ap lasting is)) in
         let tree : (j : ℕ) → true_at j here ≡ holds (tree_of (formulas ns) (Once a)) τ j = λ j. ap (λ f. holds f τ j) (formulas_at ns here ok l ∙ ap (tree_of (formulas ns)) is) in
         sometime_holds n (get_or (formulas ns) a truth) (r (Held here)) (get_or known a false)
-        (recalls (Held here) has ∙ before_same n (λ j. true_at j here) (λ j. holds (tree_of (formulas ns) (Once a)) τ j) tree)
+        (recalls (Held here) has ∙ (λ i. before n (λ j. tree j i)))
         (known_at a l (ltb-true a here o) u (subst (λ m. Has (operands m) a) (sym is) (only_operand a)))
 
     -- the next verdict is right too

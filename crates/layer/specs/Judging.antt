@@ -1,12 +1,13 @@
 -- How a layer judges a state: from the label mask below and the remembered bits, the truth of each node in rising order; and what
 -- it remembers on leaving. A bit tells whether the node of its item held, or failed, one position earlier; at the start all are 0.
-use Rattle.std.specs.Prelude.{ℕ, ◌+◌, ◌*◌, ◌/◌, ◌%◌, Bool, true, false, cond, not, ◌&&◌, ◌||◌, List, [], ◌∷◌, ◌++◌, length, ℤ, pos, ◌+ℤ◌, ◌-ℤ◌, ◌==◌, slice_index_or}
+use Rattle.std.specs.Prelude.{ℕ, ◌+◌, ◌*◌, ◌/◌, ◌%◌, Bool, true, false, cond, not, ◌&&◌, ◌||◌, List, [], ◌∷◌, ◌++◌, length, ℤ, ◌+ℤ◌, ◌==◌, slice_index_or}
 use Rattle.formula.specs.declared.Node.{Node}
 use Rattle.formula.specs.declared.Node.TheVariants.{Label, True, Not, And, Or, Previous, Since, Always, Once}
 use Rattle.formula.specs.declared.Item.{Item}
 use Rattle.formula.specs.declared.Item.TheVariants.{Held, Failed}
 use Rattle.truth.specs.Truth.{labelled}
 use Rattle.wishlayout.specs.declared.Wish.{Wish}
+use Rattle.wishlayout.specs.Wishes.{amount}
 
 -- the node of an item
 abbrev pub node_of : Item → ℕ
@@ -69,10 +70,6 @@ wish_held vs w = slice_index_or vs w.node false
 -- one bit for each wish, in book order
 abbrev pub bits_of_wishes : List Wish → List Bool → ℕ
 bits_of_wishes ws vs = bits_of (wish_held vs) ws
-
--- the amount of a wish
-abbrev pub amount : Wish → ℤ
-amount w = pos w.raised -ℤ pos 255
 
 -- the amounts of the wishes that hold, after what was earned before
 abbrev pub earned : ℤ → List Wish → List Bool → ℤ

@@ -8,9 +8,10 @@ use Rattle.model.specs.Models.{Model}
 use Rattle.refusal.specs.declared.Refusal.{Refusal}
 use Rattle.refusal.specs.declared.Refusal.TheVariants.{NoSuchLabel, BoundPassed, SpanPassed}
 use Rattle.wishlayout.specs.declared.Wish.{Wish}
+use Rattle.wishlayout.specs.Wishes.{amount}
 use Rattle.wishbook.specs.Book.{Book}
 use Rattle.words.specs.Tests.{all}
-use Rattle.layer.specs.Judging.{recalled, verdicts, memory_of, bits_of_wishes, amount, earned}
+use Rattle.layer.specs.Judging.{recalled, verdicts, memory_of, bits_of_wishes, earned}
 
 -- the labels that a node names are among the model's
 abbrev pub names_label_below : ℕ → Node → Bool

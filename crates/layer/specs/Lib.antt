@@ -1,6 +1,5 @@
 pub mod Judging
 pub mod Judged
-pub mod Tables
 pub mod Layering
 pub mod Laying
 pub mod Records

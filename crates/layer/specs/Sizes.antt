@@ -5,7 +5,8 @@ use borrow.Author.Differences.{abs_is}
 use Rattle.std.proofs.lemmas.Nat.{pow-add, mul-add-lt}
 use Rattle.std.proofs.lemmas.Int.{ints}
 use Rattle.wishlayout.specs.declared.Wish.{Wish}
-use Rattle.layer.specs.Judging.{bit, bits_of, wish_held, amount, earned}
+use Rattle.wishlayout.specs.Wishes.{amount}
+use Rattle.layer.specs.Judging.{bit, bits_of, wish_held, earned}
 use Rattle.layer.specs.Layering.{amounts}
 
 pub bit_below : (b : Bool) (m k : ℕ) → m < 2 ^ k → bit b + 2 * m < 2 ^ suc k

@@ -1,7 +1,6 @@
-// A wish book in a state: the truth of each of its nodes there, and what the state comes to.
+// A wish book in a state: the label mask there, the truth of each of its nodes, and what the state comes to.
 ghost use Rattle.std.specs.Prelude.{◌≡◌, length};
 
-use crate::amounts::amount;
 use crate::counts::{remember, wish_bits};
 use crate::judging::{at, judge};
 use wishbook::WishBook;
@@ -9,6 +8,7 @@ use wishbook::WishBook;
 #[derive(Drop)]
 pub(crate) struct Judged<'a> {
     book: &'a WishBook,
+    pub(crate) mask: u32,
     truths: [bool; 128],
     ghost size: { length truths ≡ 128 },
 }
@@ -22,10 +22,12 @@ impl<'a> Judged<'a> {
 
     pub(crate) fn new(book: &'a WishBook, mask: u32, memory: u64) -> Judged<'a>
         ensures book { result.book.now ≡ book.now }
+        ensures mask { result.mask ≡ mask }
         ensures known { known result ≡ verdicts_in (contents book.now) mask memory }
     {
         Judged {
             book,
+            mask,
             truths: judge(book, mask, memory),
         }
     }
@@ -61,7 +63,7 @@ impl<'a> Judged<'a> {
         let mut total = sum;
         for wish in self.book.wishes() {
             if at(known, wish.node) {
-                total += amount(*wish);
+                total += wish.amount();
             }
         }
         total

@@ -2,10 +2,9 @@
 ghost use Rattle.std.specs.Prelude.{◌≡◌, ◌<◌, ◌≤◌, false, length, take, slice_index_or};
 ghost use Rattle.wishbook.specs.Contents.{contents};
 ghost use Rattle.layer.specs.Judging.{recalled as recalled_in, verdict as verdict_of, verdicts};
-ghost use Rattle.layer.specs.Tables.{told};
 
 use crate::recalled::Recalled;
-use formula::{Node, is_marked};
+use formula::{Item, Node};
 use truth::shows;
 use wishbook::WishBook;
 
@@ -13,13 +12,13 @@ use wishbook::WishBook;
 pub(crate) fn at(table: &[bool], node: u8) -> bool
     ensures { result ≡ slice_index_or table.now node false }
 {
-    is_marked(table, node as usize)
+    formula::is_marked(table, node.into())
 }
 
 // The truth of the next node, after the nodes before it.
-fn verdict(node: Node, mask: u32, recalled: &Recalled, before: &[bool]) -> bool
+fn verdict(node: Node, mask: u32, recalled: &Recalled<'_>, before: &[bool]) -> bool
     requires { length before.now < 128 }
-    ensures { result ≡ verdict_of mask (told recalled.now) (length before.now) before.now node }
+    ensures { result ≡ verdict_of mask (recalled_in recalled.now.items.now recalled.now.memory) (length before.now) before.now node }
 {
     let here = before.len() as u8;
     match node {
@@ -28,17 +27,18 @@ fn verdict(node: Node, mask: u32, recalled: &Recalled, before: &[bool]) -> bool
         Node::Not(a) => !at(before, a),
         Node::And(a, b) => at(before, a) && at(before, b),
         Node::Or(a, b) => at(before, a) || at(before, b),
-        Node::Previous(a) => recalled.held(a),
-        Node::Since(a, b) => (at(before, a) && recalled.held(here)) || at(before, b),
-        Node::Always(a) => !recalled.failed(here) && at(before, a),
-        Node::Once(a) => recalled.held(here) || at(before, a),
+        Node::Previous(a) => recalled.tells(Item::Held(a)),
+        Node::Since(a, b) => (at(before, a) && recalled.tells(Item::Held(here))) || at(before, b),
+        Node::Always(a) => !recalled.tells(Item::Failed(here)) && at(before, a),
+        Node::Once(a) => recalled.tells(Item::Held(here)) || at(before, a),
     }
 }
 
-// The truth of each of at most 128 nodes, in rising order.
-fn truths(nodes: &[Node], mask: u32, recalled: &Recalled) -> [bool; 128]
+// The truth of each of at most 128 nodes, in rising order. That it is a table of fixed length, filled in that order, is a rule of the
+// project: no heap, fixed memory.
+fn truths(nodes: &[Node], mask: u32, recalled: &Recalled<'_>) -> [bool; 128]
     requires { length nodes.now ≤ 128 }
-    ensures { take (length nodes.now) result ≡ verdicts mask (told recalled.now) nodes.now }
+    ensures { take (length nodes.now) result ≡ verdicts mask (recalled_in recalled.now.items.now recalled.now.memory) nodes.now }
 {
     let mut known = [false; 128];
     for (i, node) in nodes.iter().enumerate() {
@@ -51,5 +51,6 @@ fn truths(nodes: &[Node], mask: u32, recalled: &Recalled) -> [bool; 128]
 pub fn judge(book: &WishBook, mask: u32, memory: u64) -> [bool; 128]
     ensures { take (length (contents book.now).nodes) result ≡ verdicts mask (recalled_in (contents book.now).items memory) (contents book.now).nodes }
 {
-    truths(book.nodes(), mask, &Recalled::of(book.items(), memory))
+    let items = book.items();
+    truths(book.nodes(), mask, &Recalled { items, memory })
 }

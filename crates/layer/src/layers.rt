@@ -1,5 +1,5 @@
 // A wish book laid on a model. Where it is refused, or there is none, the model below answers.
-ghost use Rattle.std.specs.Prelude.{◌≡◌, Some, MatchOption};
+ghost use Rattle.std.specs.Prelude.{◌≡◌, None, MatchOption};
 ghost use Rattle.std.specs.Option.{option_map};
 ghost use Rattle.wishbook.specs.Contents.{contents};
 ghost use Rattle.layer.specs.Layering.{over, refusal as refusal_of};
@@ -17,24 +17,23 @@ pub struct Layer<M> {
     book: Option<WishBook>,
 }
 
-// The layer of a book on a model, and why it is not laid where it is not: a layer is made in any case, so both are handed out.
-pub fn lay<M: SiteModel>(below: M, book: WishBook) -> (Layer<M>, Option<Refusal>)
-    ensures meaning { meaning_of M.SiteModel.meaning result.0 ≡ over (M.SiteModel.meaning below) (Some (contents book)) }
-    ensures refusal { result.1 ≡ refusal_of (M.SiteModel.meaning below) (contents book) }
-{
-    let refusal = Over::new(&below, &book).err();
-    let book = Some(book);
-    (Layer { below, book }, refusal)
-}
-
-// No book: the model below answers.
-pub fn bare<M: SiteModel>(below: M) -> Layer<M>
-    ensures { meaning_of M.SiteModel.meaning result ≡ M.SiteModel.meaning below }
-{
-    Layer { below, book: None }
-}
-
 impl<M: SiteModel> Layer<M> {
+    // The layer of a book on a model, or of none. It is made in any case: where the book is refused, the model below answers.
+    pub fn new(below: M, book: Option<WishBook>) -> Layer<M>
+        ensures below { result.below ≡ below }
+        ensures book { result.book ≡ book }
+        ensures meaning { meaning_of M.SiteModel.meaning result ≡ over (M.SiteModel.meaning below) (option_map contents book) }
+    {
+        Layer { below, book }
+    }
+
+    // Why the book is not laid, where there is one and it is not.
+    pub fn refusal(&self) -> Option<Refusal>
+        ensures { MatchOption self.now.book (result ≡ None) (λ book. result ≡ refusal_of (M.SiteModel.meaning self.now.below) (contents book)) }
+    {
+        Over::new(&self.below, self.book.as_ref()?).err()
+    }
+
     // The model below.
     pub fn below(&self) -> &M
         ensures { result.now ≡ self.now.below }
@@ -66,65 +65,51 @@ impl<M: SiteModel> Layer<M> {
     }
 }
 
-// Every question goes to the layer where the book is laid, and else to the model below; a trait's methods are handed on one by one.
+// Every question goes to the layer where the book is laid, and else to the model below.
+macro_rules! answer {
+    ($layer:ident.$question:ident($($of:expr),*)) => {
+        match $layer.over() {
+            Some(over) => over.$question($($of),*),
+            None => $layer.below.$question($($of),*),
+        }
+    };
+}
+
+// A trait's methods are handed on one by one.
 impl<M: SiteModel> SiteModel for Layer<M> {
     ghost meaning = { λ l. meaning_of M.SiteModel.meaning l };
 
     ghost lawful = { λ l. layer_lawful (M.SiteModel.meaning l.below) l.book (M.SiteModel.lawful l.below) };
 
     fn start(&self) -> u64 {
-        match self.over() {
-            Some(over) => over.start(),
-            None => self.below.start(),
-        }
+        answer!(self.start())
     }
 
     fn is_state(&self, s: u64) -> bool {
-        match self.over() {
-            Some(over) => over.is_state(s),
-            None => self.below.is_state(s),
-        }
+        answer!(self.is_state(s))
     }
 
     fn mask(&self, s: u64) -> u32 {
-        match self.over() {
-            Some(over) => over.mask(s),
-            None => self.below.mask(s),
-        }
+        answer!(self.mask(s))
     }
 
     fn reward(&self, s: u64) -> i32 {
-        match self.over() {
-            Some(over) => over.reward(s),
-            None => self.below.reward(s),
-        }
+        answer!(self.reward(s))
     }
 
     fn ground(&self, s: u64) -> u64 {
-        match self.over() {
-            Some(over) => over.ground(s),
-            None => self.below.ground(s),
-        }
+        answer!(self.ground(s))
     }
 
     fn offers(&self, s: u64, a: u32) -> bool {
-        match self.over() {
-            Some(over) => over.offers(s, a),
-            None => self.below.offers(s, a),
-        }
+        answer!(self.offers(s, a))
     }
 
     fn outcomes(&self, s: u64, a: u32) -> Outcomes {
-        match self.over() {
-            Some(over) => over.outcomes(s, a),
-            None => self.below.outcomes(s, a),
-        }
+        answer!(self.outcomes(s, a))
     }
 
     fn sizes(&self) -> Sizes {
-        match self.over() {
-            Some(over) => over.sizes(),
-            None => self.below.sizes(),
-        }
+        answer!(self.sizes())
     }
 }

@@ -5,6 +5,7 @@ ghost use Rattle.bounded.specs.Listed.{listed};
 ghost use Rattle.model.specs.declared.Outcome.{Outcome as Way};
 ghost use Rattle.wishbook.specs.Contents.{contents};
 ghost use Rattle.layer.specs.Books.{few_items};
+ghost use Rattle.layer.specs.Judged.{JudgedAt};
 ghost use Rattle.layer.specs.Layering.{fits, is_layer_state, layered, memory as memory_in, refusal as refusal_of, under};
 ghost use Rattle.layer.specs.Lawfulness.{layered_lawful};
 ghost use Rattle.layer.specs.Laying.{moved, SizesOf};
@@ -50,6 +51,15 @@ impl<'a, M: SiteModel> Over<'a, M> {
             None
         }
     }
+
+    // The state below, and the book judged there, where `s` is a state of the layer.
+    fn judged(&self, s: u64) -> Option<(u64, Judged<'_>)>
+        ensures { MatchOption result (is_layer_state (M.SiteModel.meaning self.now.below.now) (contents self.now.book.now) s ≡ false) (λ p. (is_layer_state (M.SiteModel.meaning self.now.below.now) (contents self.now.book.now) s ≡ true) × (p.0 ≡ under s) × JudgedAt (M.SiteModel.meaning self.now.below.now) self.now.book.now s p.1) }
+    {
+        let (below, memory) = self.apart(s)?;
+        let mask = self.below.mask(below);
+        Some((below, Judged::new(self.book, mask, memory)))
+    }
 }
 
 // A mask with the wish bits above its labels.
@@ -61,7 +71,8 @@ fn join(mask: u32, labels: u32, bits: u32) -> u32
     mask + (bits << labels)
 }
 
-// The outcomes with a memory beside each target.
+// The outcomes with a memory beside each target. Nothing collects into a bounded list, and a public map over a closure would ask
+// that the closure may be called.
 fn lift(ways: Outcomes, memory: u64) -> Outcomes
     requires low { (j : ℕ) (d : Way) → j < length (listed ways) → (slice_index_or (listed ways) j d).target < 2 ^ 44 }
     requires small { memory < 65536 }
@@ -91,19 +102,16 @@ impl<'a, M: SiteModel> SiteModel for Over<'a, M> {
     }
 
     fn mask(&self, s: u64) -> u32 {
-        let Some((below, memory)) = self.apart(s) else {
+        let Some((_, judged)) = self.judged(s) else {
             return 0;
         };
-        let mask = self.below.mask(below);
-        let judged = Judged::new(self.book, mask, memory);
-        join(mask, self.sizes.labels, judged.bits())
+        join(judged.mask, self.sizes.labels, judged.bits())
     }
 
     fn reward(&self, s: u64) -> i32 {
-        let Some((below, memory)) = self.apart(s) else {
+        let Some((below, judged)) = self.judged(s) else {
             return 0;
         };
-        let judged = Judged::new(self.book, self.below.mask(below), memory);
         judged.earned(self.below.reward(below))
     }
 
@@ -118,10 +126,9 @@ impl<'a, M: SiteModel> SiteModel for Over<'a, M> {
     }
 
     fn outcomes(&self, s: u64, a: u32) -> Outcomes {
-        let Some((below, memory)) = self.apart(s) else {
+        let Some((below, judged)) = self.judged(s) else {
             return Outcomes::new();
         };
-        let judged = Judged::new(self.book, self.below.mask(below), memory);
         lift(self.below.outcomes(below, a), judged.memory())
     }
 

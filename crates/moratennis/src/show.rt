@@ -70,7 +70,7 @@ fn write_formula<W: fmt::Write>(f: &mut fmt::Formatter<W>, nodes: &[Node], i: u8
 // Each wish of a book: its amount and its formula.
 pub fn wishes(rt: &impl Print, book: &WishBook) -> anyhow::Result<()> {
     for wish in book.wishes() {
-        let amount = i32::from(wish.raised) - 255;
+        let amount = wish.amount();
         let text = Formula {
             nodes: book.nodes(),
             top: wish.node,

@@ -1,7 +1,7 @@
 -- The promise about piles, from the laws of the ground model and the soundness of the books alone.
 use Rattle.std.proofs.Common.{◌≡◌, ℕ, ◌<◌, ◌≤◌, Bool, true, false, cond, List, [], ◌∷◌, map, length, get_or, Some, None, sym, refl, ap, ◌∙◌, subst, arith}
 use Rattle.std.proofs.lemmas.Bool.{and_parts}
-use Rattle.std.proofs.lemmas.List.{length-map, get_or-map}
+use Rattle.std.proofs.lemmas.List.{length-map, get_or-map, map-id}
 use Rattle.formula.specs.Formulas.{earlier}
 use Rattle.model.specs.Histories.{final, History, begun, onward, along, Unfolds}
 use Rattle.model.proofs.Paths.{final-push, one_path_above}
@@ -24,8 +24,7 @@ final_state g law h (onward {h = before} a t hist off (k, l, at)) =
     ap g.state (final-push before t ∙ sym is) ∙ law.targets (final before) a k (record { target = 0; weight = 0 }) inside
 
 map_keeps : (h : List ℕ) (os : List Outcome) → map (along final h) os ≡ os
-map_keeps h [] = refl
-map_keeps h (o ∷ os) = λ i. record { target = final-push h o.target i; weight = o.weight } ∷ map_keeps h os i
+map_keeps h os = (λ i. map (λ o. record { target = final-push h o.target i; weight = o.weight }) os) ∙ map-id os
 
 -- a ground model unfolds itself
 ground_unfolds : (g : Model) → Lawful g → Ground g → Unfolds g g final (λ h. g.mask (final h)) (λ h. g.reward (final h))

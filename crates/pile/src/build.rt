@@ -7,7 +7,7 @@ ghost use Rattle.layer.specs.Laying.{meaning_of};
 ghost use Rattle.pile.specs.Piles.{piled};
 
 use crate::footing::Footing;
-use layer::{Layer, bare, lay};
+use layer::Layer;
 use model::{GroundModel, SiteModel};
 use wishbook::WishBook;
 
@@ -18,10 +18,7 @@ pub type Three<G> = Layer<Layer<Layer<Footing<G>>>>;
 pub fn floor<M: SiteModel>(below: M, book: Option<WishBook>) -> Layer<M>
     ensures { meaning_of M.SiteModel.meaning result ≡ over (M.SiteModel.meaning below) (option_map contents book) }
 {
-    match book {
-        Some(book) => lay(below, book).0,
-        None => bare(below),
-    }
+    Layer::new(below, book)
 }
 
 // The books laid on the ground model, the first one lowest.

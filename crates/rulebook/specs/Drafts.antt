@@ -16,7 +16,7 @@ list_from t = acts_from (listed t.acts)
 abbrev pub draft_from : Stage → Draft
 draft_from Blank = blank
 draft_from (Listing t) = listing t.head (list_from t)
-draft_from (Inside t m es) = inside t.head (list_from t) m (listed es)
+draft_from (Inside o) = inside o.table.head (list_from o.table) o.action (listed o.effects)
 draft_from (Whole t) = whole t.head (list_from t)
 
 -- what comes of a word that is not the end word

@@ -1,7 +1,7 @@
 // A rule book as a ground model: its states are the masks of its switches.
-ghost use Rattle.std.specs.Prelude.{◌≡◌, ◌^◌, ◌≤◌, true, false, MatchOption};
+ghost use Rattle.std.specs.Prelude.{◌≡◌, ◌^◌, ◌<◌, ◌≤◌, true, false, cond, MatchOption};
 ghost use Rattle.bounded.specs.Listed.{listed};
-ghost use Rattle.rulemodel.specs.Meaning.{act_at, offers, rule_model};
+ghost use Rattle.rulemodel.specs.Meaning.{act_at, is_switch_mask, offers, rule_model};
 ghost use Rattle.rulebook.specs.Acts.{act_from};
 ghost use Rattle.rulebook.specs.Contents.{contents};
 ghost use Rattle.rulemodel.proofs.RuleLaws.{rule_lawful, rule_ground, rule_numbered};
@@ -18,6 +18,14 @@ impl RuleBook {
         ensures small { result ≤ 1024 }
     {
         1 << self.switches as u32
+    }
+
+    // The switches that are on in a state: its number. In none, where there is no such state.
+    fn switches_on(&self, s: u64) -> u64
+        ensures on { result ≡ cond (is_switch_mask (contents self.now) s) s 0 }
+        ensures small { result < 1024 }
+    {
+        if s < self.states() { s } else { 0 }
     }
 
     // The action, where it is offered in the state.
@@ -43,7 +51,7 @@ impl SiteModel for RuleBook {
     }
 
     fn mask(&self, s: u64) -> u32 {
-        if s < self.states() { s as u32 } else { 0 }
+        self.switches_on(s) as u32
     }
 
     fn reward(&self, _s: u64) -> i32 {
@@ -51,7 +59,7 @@ impl SiteModel for RuleBook {
     }
 
     fn ground(&self, s: u64) -> u64 {
-        if s < self.states() { s } else { 0 }
+        self.switches_on(s)
     }
 
     fn offers(&self, s: u64, a: u32) -> bool {

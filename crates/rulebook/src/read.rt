@@ -3,65 +3,52 @@ ghost use Rattle.std.specs.Prelude.{◌≡◌, ◌<◌, true, ◌&&◌, [], ◌�
 ghost use Rattle.bounded.specs.Listed.{listed};
 ghost use Rattle.words.specs.Format.{Faithful, reading};
 ghost use Rattle.rulelayout.specs.Rule.{Rule, valid};
-ghost use Rattle.rulelayout.specs.Layout.{Draft as Words, rule_format, rule_words, read_word, whole_rule, filled, Sound, sound-prop};
+ghost use Rattle.rulelayout.specs.Layout.{Draft as Words, listed as acts_read, rule_format, rule_words, read_word, whole_rule, filled, Sound, sound-prop};
+ghost use Rattle.rulebook.specs.Acts.{act_from};
 ghost use Rattle.rulebook.specs.Drafts.{list_from, draft_from, step_from, turn_from};
 ghost use Rattle.rulebook.specs.Contents.{contents, verdict_from};
 
 use crate::action::Action;
 use crate::book::RuleBook;
-use crate::stage::{Stage, Table};
+use crate::stage::{Open, Stage, Table};
 use bounded::Bounded;
 use refusal::{Fault, Refusal};
-use rulelayout::{Effect, Kind, Masks, read_head, read_masks, total_weight};
+use rulelayout::{Effect, Kind, read_head, read_masks, total_weight};
 use words::{Draft, Turn, open, read};
 
-// With these outcomes of the last action read. While an action is due there is room for it.
-fn filled(mut table: Table, action: Masks, effects: Bounded<Effect, 8>) -> Result<Stage, Refusal>
-    ensures { length (list_from table) < 8 → step_from result ≡ filled table.head (list_from table) action (listed effects) }
-{
-    if effects.len() < action.count as usize {
-        return Ok(Stage::Inside(table, action, effects));
-    }
-    if total_weight(&effects) != Some(8) {
-        return Err(Refusal::WrongTotal);
-    }
-    let _ = table.acts.push(Action {
-        on: action.first,
-        off: action.second,
-        effects,
-    });
-    if table.acts.len() < table.head.actions as usize {
-        Ok(Stage::Listing(table))
-    } else {
-        Ok(Stage::Whole(table))
+impl Table {
+    // What is due after one action more. While an action is due there is room for it.
+    fn with(mut self, action: Action) -> Stage
+        ensures { length (list_from self) < 8 → draft_from result ≡ acts_read self.head (list_from self ++ act_from action ∷ []) }
+    {
+        let _ = self.acts.push(action);
+        if self.acts.len() < self.head.actions as usize {
+            Stage::Listing(self)
+        } else {
+            Stage::Whole(self)
+        }
     }
 }
 
-// What is due after one word more, or nothing at the end word. While an outcome is due there is room for it.
-#[tactic(auto, unfolding(rulelayout::specs::Layout::read_word))]
-fn next(stage: Stage, word: u32) -> Result<Option<Stage>, Refusal>
-    requires { Sound (draft_from stage) }
-    ensures { turn_from result ≡ read_word (draft_from stage) word }
-{
-    match stage {
-        Stage::Blank => {
-            let head = read_head(word)?;
-            let acts = Bounded::new();
-            Ok(Some(Stage::Listing(Table { head, acts })))
+impl Open {
+    // What is due after one outcome more. While an outcome is due there is room for it, and for its action.
+    fn with(mut self, effect: Effect) -> Result<Stage, Refusal>
+        ensures { length (list_from self.table) < 8 → length (listed self.effects) < 8 → step_from result ≡ filled self.table.head (list_from self.table) self.action (listed self.effects ++ effect ∷ []) }
+    {
+        let _ = self.effects.push(effect);
+        if self.effects.len() < self.action.count as usize {
+            return Ok(Stage::Inside(self));
         }
-        Stage::Listing(table) => {
-            let action = read_masks(Kind::Action as u32, table.head.switches as u32, word)?;
-            Ok(Some(Stage::Inside(table, action, Bounded::new())))
+        if total_weight(&self.effects) != Some(8) {
+            return Err(Refusal::WrongTotal);
         }
-        Stage::Inside(table, action, mut effects) => {
-            let masks = read_masks(Kind::Outcome as u32, table.head.switches as u32, word)?;
-            let _ = effects.push(masks.into());
-            Ok(Some(filled(table, action, effects)?))
-        }
-        Stage::Whole(_) => {
-            open(word, Kind::End as u32, 28)?;
-            Ok(None)
-        }
+        Ok(
+            self.table.with(Action {
+                on: self.action.first,
+                off: self.action.second,
+                effects: self.effects,
+            }),
+        )
     }
 }
 
@@ -77,6 +64,41 @@ fn needless(action: &Action) -> bool
 struct Reading {
     stage: Stage,
     ghost sound: { Sound (draft_from stage) } by { sound-prop (draft_from stage) },
+}
+
+impl Reading {
+    // What is due after one word more, or nothing at the end word. A draft is a state machine: the same word means another thing at each
+    // stage, so that each has an arm.
+    #[tactic(auto, unfolding(rulelayout::specs::Layout::read_word))]
+    fn next(&self, word: u32) -> Result<Option<Stage>, Refusal>
+        ensures { turn_from result ≡ read_word (draft_from self.now.stage) word }
+    {
+        match self.stage {
+            Stage::Blank => {
+                let head = read_head(word)?;
+                let acts = Bounded::new();
+                Ok(Some(Stage::Listing(Table { head, acts })))
+            }
+            Stage::Listing(table) => {
+                let action = read_masks(Kind::Action as u32, table.head.switches as u32, word)?;
+                let effects = Bounded::new();
+                Ok(Some(Stage::Inside(Open {
+                    table,
+                    action,
+                    effects,
+                })))
+            }
+            Stage::Inside(inside) => {
+                let switches = inside.table.head.switches as u32;
+                let masks = read_masks(Kind::Outcome as u32, switches, word)?;
+                Ok(Some(inside.with(masks.into())?))
+            }
+            Stage::Whole(_) => {
+                open(word, Kind::End as u32, 28)?;
+                Ok(None)
+            }
+        }
+    }
 }
 
 impl Draft for Reading {
@@ -100,7 +122,7 @@ impl Draft for Reading {
 
     #[tactic(auto, using(rulelayout::proofs::Faithful::sound_steps))]
     fn step(&mut self, word: u32) -> Result<Turn, Refusal> {
-        match next(self.stage, word)? {
+        match self.next(word)? {
             Some(stage) => {
                 *self = Reading { stage };
                 Ok(Turn::More)

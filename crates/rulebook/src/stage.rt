@@ -11,11 +11,19 @@ pub struct Table {
     pub acts: Bounded<Action, 8>,
 }
 
-// What is due: the head, an action, an outcome of the action with these masks after those that were read, or the end.
+// An action that is being read, after the table of those before it: its masks, and the outcomes that it has so far.
+#[derive(Clone, Copy)]
+pub struct Open {
+    pub table: Table,
+    pub action: Masks,
+    pub effects: Bounded<Effect, 8>,
+}
+
+// What is due: the head, an action, an outcome of the open action, or the end.
 #[derive(Clone, Copy)]
 pub enum Stage {
     Blank,
     Listing(Table),
-    Inside(Table, Masks, Bounded<Effect, 8>),
+    Inside(Open),
     Whole(Table),
 }

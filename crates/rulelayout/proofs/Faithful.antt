@@ -26,9 +26,6 @@ written (listing h acts) = word_of_head h.switches h.actions h.start ∷ act_wor
 written (inside h acts m es) = word_of_head h.switches h.actions h.start ∷ (act_words acts ++ (action_word m.first m.second m.count ∷ effect_words es))
 written (whole h acts) = word_of_head h.switches h.actions h.start ∷ act_words acts
 
-more_is_not_end : {S : Type 0} {t : S} → more t ≡ ends → ⊥
-more_is_not_end e = let z : ◌≡◌ {A = ℕ} 0 1 = cc in omega arith
-
 -- one word on: the draft is sound, and the word is added to those read
 abbrev Steps : Draft → ℕ → Draft → Type 0
 Steps s w t = Sound t × (written t ≡ written s ++ (w ∷ []))
@@ -107,7 +104,7 @@ steps (inside h acts m es) t w sound e =
     effect_steps h acts m es w x sound told.0 told.1 t at
 steps (whole h acts) t w sound e =
     let passed = check_more (eqb (kind w) 15) WrongKind ends t e in
-    absurd (more_is_not_end (sym passed.1))
+    absurd (cc passed.1)
 
 -- every draft that reading comes to is sound
 pub sound_steps : (s t : Draft) (w : ℕ) → Sound s → read_word s w ≡ more t → Sound t
@@ -115,14 +112,14 @@ sound_steps s t w sound e = (steps s t w sound e).0
 
 ends_well : (s : Draft) (w : ℕ) → Sound s → read_word s w ≡ ends → kind w ≡ 15
 unfolding read_word
-ends_well blank w sound e = let (h, (is, at)) = onto_ends (head_of w) (λ h. more (listing h [])) e in absurd (more_is_not_end at)
-ends_well (listing h acts) w sound e = let (m, (is, at)) = onto_ends (masks_of 7 h.switches w) (λ m. more (inside h acts m [])) e in absurd (more_is_not_end at)
+ends_well blank w sound e = let (h, (is, at)) = onto_ends (head_of w) (λ h. more (listing h [])) e in absurd (cc at)
+ends_well (listing h acts) w sound e = let (m, (is, at)) = onto_ends (masks_of 7 h.switches w) (λ m. more (inside h acts m [])) e in absurd (cc at)
 ends_well (inside h acts m es) w sound e =
     let (x, (is, at)) = onto_ends (masks_of 8 h.switches w) (λ e. filled h acts m (es ++ (effect_of e ∷ []))) e in
     let es' = es ++ (effect_of x ∷ []) in
     elim (cases_Bool (ltb (length es') m.count)) [
-      | inl b ↦ absurd (more_is_not_end (sym (cond-true (ltb (length es') m.count) (more (inside h acts m es')) _ b) ∙ at))
-      | inr b ↦ absurd (more_is_not_end (check_ends (eqb (total es') 8) WrongTotal (more (listed h (acts ++ (act_of m es' ∷ [])))) (sym (cond-false (ltb (length es') m.count) (more (inside h acts m es')) _ b) ∙ at)).1)
+      | inl b ↦ absurd (cc (sym (cond-true (ltb (length es') m.count) (more (inside h acts m es')) _ b) ∙ at))
+      | inr b ↦ absurd (cc (check_ends (eqb (total es') 8) WrongTotal (more (listed h (acts ++ (act_of m es' ∷ [])))) (sym (cond-false (ltb (length es') m.count) (more (inside h acts m es')) _ b) ∙ at)).1)
     ]
 ends_well (whole h acts) w sound e = eqb-true (kind w) 15 (check_ends (eqb (kind w) 15) WrongKind ends e).0
 

@@ -13,6 +13,7 @@ use model::{Outcome, Outcomes};
 use rulelayout::{Effect, total_weight};
 
 // Where an outcome lands: its switches to clear go off, then its switches to set go on.
+#[tactic(auto, using(crate::proofs::Switches::lands))]
 pub fn land(s: u64, effect: Effect) -> u64
     ensures landing { result ≡ landing s effect }
     ensures switches { Lands s effect result }

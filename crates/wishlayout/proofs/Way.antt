@@ -1,7 +1,7 @@
 -- The layout of wish books is faithful: reading the encoding of a valid book gives that book back, and whatever is accepted is the
 -- encoding of the book that was read.
 use Rattle.std.proofs.Common.{◌≡◌, ℕ, suc, ◌+◌, ◌^◌, ◌<◌, ◌≤◌, true, false, cond, not, eqb, ltb, leb, List, [], ◌∷◌, ◌++◌, length, Ok, sym, refl, ap, ◌∙◌, subst, inl, inr, append_assoc, append-nil, arith, rules, length-append}
-use Rattle.std.proofs.lemmas.List.{length_push}
+use Rattle.std.proofs.lemmas.List.{length_push, length-map, map_push}
 use Rattle.std.proofs.lemmas.Bool.{and_parts, ltb-true, cases_Bool, not-true}
 use Rattle.formula.specs.declared.Node.{Node}
 use Rattle.formula.specs.Formulas.{operands_below, earlier_from, earlier}
@@ -24,14 +24,6 @@ abbrev written : Draft → List ℕ
 written (noding ns) = node_words ns
 written (wishing ns ws) = node_words ns ++ amount_words ws
 
-node_words_push : (ns : List Node) (n : Node) → node_words (ns ++ (n ∷ [])) ≡ node_words ns ++ (node_word n ∷ [])
-node_words_push [] n = refl
-node_words_push (x ∷ ns) n = ap (λ l. node_word x ∷ l) (node_words_push ns n)
-
-amount_words_push : (ws : List Wish) (w : Wish) → amount_words (ws ++ (w ∷ [])) ≡ amount_words ws ++ (wish_word w ∷ [])
-amount_words_push [] w = refl
-amount_words_push (x ∷ ws) w = ap (λ l. wish_word x ∷ l) (amount_words_push ws w)
-
 same_more : {x y : Draft} → more x ≡ more y → x ≡ y
 same_more e = search rules
 
@@ -43,7 +35,7 @@ abbrev Next : Draft → ℕ → Draft → Type 0
 Next d w t = Good t × (written t ≡ written d ++ (w ∷ []))
 
 wish_next : (ns : List Node) (ws : List Wish) (w : ℕ) (t : Draft) → GoodNodes ns → 1 ≤ length ns → length ws < 16 → all (good_wish (length ns)) ws ≡ true → read_wish ns ws w ≡ more t → Good t × (written t ≡ (node_words ns ++ amount_words ws) ++ (w ∷ []))
-wish_next ns ws w t g some few each e = search (rules, wish_in_reads (length ns) w, all_push (good_wish (length ns)) ws, amount_words_push ws, append_assoc (node_words ns) (amount_words ws) (w ∷ []), length_push ws)
+wish_next ns ws w t g some few each e = search (rules, wish_in_reads (length ns) w, all_push (good_wish (length ns)) ws, map_push wish_word ws, append_assoc (node_words ns) (amount_words ws) (w ∷ []), length_push ws)
 
 pub word_kept : (d t : Draft) (w : ℕ) → Good d → read_word d w ≡ more t → Good t × (written t ≡ written d ++ (w ∷ []))
 unfolding read_word
@@ -60,7 +52,7 @@ word_kept (noding ns) t w g e =
           let long = length_push ns said.0 in
           subst (Next (noding ns) w) (same_more said.1.1) (
             (earlier-push ns said.0 g.0 told.1.0, (all_push good_label ns said.0 g.1.0 told.1.1, omega (arith, ltb-true (length ns) 128 room.0))),
-            node_words_push ns said.0 ∙ ap (λ v. node_words ns ++ (v ∷ [])) (sym told.0),
+            map_push node_word ns said.0 ∙ ap (λ v. node_words ns ++ (v ∷ [])) (sym told.0),
           )
     ]
 word_kept (wishing ns ws) t w g e = search (rules, wish_next ns ws w t)
@@ -132,14 +124,6 @@ book_step : (ns : List Node) (ws : List Wish) → leb (length (items_for ns ws))
 unfolding whole_book
 book_step ns ws few = search rules
 
-length-nodes : (ns : List Node) → length (node_words ns) ≡ length ns
-length-nodes [] = refl
-length-nodes (n ∷ ns) = ap suc (length-nodes ns)
-
-length-amounts : (ws : List Wish) → length (amount_words ws) ≡ length ws
-length-amounts [] = refl
-length-amounts (w ∷ ws) = ap suc (length-amounts ws)
-
 -- what a valid book has, by name
 pub record Validly (b : Wishes) : Type 0 where
   pub nodes_some : 1 ≤ length b.nodes
@@ -161,7 +145,7 @@ reads_back_from (n ∷ ns) (w ∷ ws) v =
     let few = v.nodes_few in
     let room = v.wishes_few in
     let each = and_parts (good_wish (length (n ∷ ns)) w) (all (good_wish (length (n ∷ ns))) ws) v.amounts in
-    let size : length (wish_words (record { nodes = n ∷ ns; wishes = w ∷ ws })) < 2 ^ 28 = omega (arith, length-append (node_words (n ∷ ns)) (amount_words (w ∷ ws)), length-nodes (n ∷ ns), length-amounts (w ∷ ws), few, room) in
+    let size : length (wish_words (record { nodes = n ∷ ns; wishes = w ∷ ws })) < 2 ^ 28 = omega (arith, length-append (node_words (n ∷ ns)) (amount_words (w ∷ ws)), length-map (n ∷ ns) node_word, length-map (w ∷ ws) wish_word, few, room) in
     let nodes = way_nodes [] (n ∷ ns) v.operands v.labels (omega (arith, few)) in
     let wishes : Passes wish_format (noding (n ∷ ns)) (amount_words (w ∷ ws)) (wishing (n ∷ ns) (w ∷ ws)) =
     (wishing (n ∷ ns) (w ∷ []), (first_wish n ns w few each.0, ((wish_written (length (n ∷ ns)) w few each.0).1.1, way_wishes (n ∷ ns) (w ∷ []) ws few each.1 (omega (arith, room))))) in

@@ -1,5 +1,5 @@
 -- How a wish book is written in words, and how it is read: 1 to 128 node words, 1 to 16 wishes, and the end word.
-use Rattle.std.specs.Prelude.{◌≡◌, ℕ, ◌≤◌, true, cond, not, List, [], ◌∷◌, ◌++◌, length, Ok, Err, Result, ◌==◌, nat_le, nat_lt}
+use Rattle.std.specs.Prelude.{◌≡◌, ℕ, ◌≤◌, true, cond, not, List, [], ◌∷◌, ◌++◌, map, length, Ok, Err, Result, ◌==◌, nat_le, nat_lt}
 use Rattle.formula.specs.declared.Node.{Node}
 use Rattle.formula.specs.Formulas.{earlier}
 use Rattle.refusal.specs.declared.Refusal.{Refusal}
@@ -14,12 +14,10 @@ use Rattle.wishlayout.specs.Wishes.{Wishes, items_for, good_label, good_wish}
 -- writing
 
 abbrev pub node_words : List Node → List ℕ
-node_words [] = []
-node_words (n ∷ ns) = node_word n ∷ node_words ns
+node_words ns = map node_word ns
 
 abbrev pub amount_words : List Wish → List ℕ
-amount_words [] = []
-amount_words (w ∷ ws) = wish_word w ∷ amount_words ws
+amount_words ws = map wish_word ws
 
 abbrev pub wish_words : Wishes → List ℕ
 wish_words b = node_words b.nodes ++ amount_words b.wishes

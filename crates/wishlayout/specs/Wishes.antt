@@ -1,6 +1,6 @@
 -- What a wish book says: formulas as node words whose operands number earlier ones, and wishes, each the number of a node word
 -- and an amount. The wishes need at most 16 memory items.
-use Rattle.std.specs.Prelude.{ℕ, Bool, true, ◌&&◌, List, map, length, nat_le, nat_lt}
+use Rattle.std.specs.Prelude.{ℕ, Bool, true, ◌&&◌, List, map, length, ℤ, pos, ◌-ℤ◌, nat_le, nat_lt}
 use Rattle.formula.specs.declared.Node.{Node}
 use Rattle.formula.specs.declared.Node.TheVariants.{Label, True, Not, And, Or, Previous, Since, Always, Once}
 use Rattle.formula.specs.declared.Item.{Item}
@@ -27,6 +27,10 @@ good_label (Previous a) = true
 good_label (Since a b) = true
 good_label (Always a) = true
 good_label (Once a) = true
+
+-- the amount of a wish
+abbrev pub amount : Wish → ℤ
+amount w = pos w.raised -ℤ pos 255
 
 -- a wish names a node word, and its amount plus 255 has nine bits
 abbrev pub good_wish : ℕ → Wish → Bool

@@ -2,9 +2,10 @@
 
 #![tactic(auto)]
 
-ghost use Rattle.std.specs.Prelude.{◌≡◌};
-ghost use Rattle.wishlayout.specs.Kinds.{Decodes, number_of, width_of};
+ghost use Rattle.std.specs.Prelude.{◌≡◌, ◌<◌, unsigned_abs};
+ghost use Rattle.wishlayout.specs.Kinds.{Decodes, width_of};
 ghost use Rattle.wishlayout.specs.OneWord.{operand_in, node_of, wish_of};
+ghost use Rattle.wishlayout.specs.Wishes.{amount as amount_of};
 
 use formula::Node;
 use refusal::Refusal;
@@ -37,6 +38,16 @@ pub struct Wish {
     pub raised: u16,
 }
 
+impl Wish {
+    // What the wish is worth in each slot in which it holds.
+    pub fn amount(&self) -> i32
+        ensures value { result ≡ amount_of self.now }
+        ensures small { unsigned_abs result < 65536 }
+    {
+        i32::from(self.raised) - 255
+    }
+}
+
 impl TryFrom<u32> for NodeKind {
     type Error = Refusal;
 
@@ -59,12 +70,6 @@ impl TryFrom<u32> for NodeKind {
 }
 
 impl NodeKind {
-    fn number(self) -> u32
-        ensures { result ≡ number_of self }
-    {
-        self as u32
-    }
-
     // How many of its lowest bits a word of this kind uses.
     fn width(self) -> u32
         ensures { result ≡ width_of self }
@@ -94,7 +99,7 @@ pub fn read_node(word: u32, count: u32) -> Result<Node, Refusal>
     ensures { result ≡ node_of count word }
 {
     let kind = NodeKind::try_from(word >> 28)?;
-    open(word, kind.number(), kind.width())?;
+    open(word, kind as u32, kind.width())?;
     Ok(match kind {
         NodeKind::Label => Node::Label(field(word, 0, 5) as u8),
         NodeKind::True => Node::True,
