@@ -1,31 +1,26 @@
 ghost use Rattle.formula.specs.Formulas.{earlier};
 ghost use Rattle.formula.specs.Merging.{renumbered, Faithful, Merges};
-ghost use Rattle.std.specs.Prelude.{◌≡◌, true, slice_index};
+ghost use Rattle.std.specs.Prelude.{◌≡◌, true};
 
 use super::Node;
+use super::table::at;
 use register::Register;
-
-// The number at place `a`, or 0 past the end.
-fn number(numbers: &[u8], a: u8) -> u8
-    ensures { result ≡ slice_index numbers.now a }
-{
-    numbers.get(a as usize).copied().unwrap_or(0)
-}
 
 // The word with its operands through the numbers of the words before it.
 fn renumber(numbers: &[u8], word: Node) -> Node
     ensures { result ≡ renumbered numbers.now word }
 {
+    let number = |a: u8| at(numbers, a as usize, 0);
     match word {
         Node::Label(p) => Node::Label(p),
         Node::True => Node::True,
-        Node::Not(a) => Node::Not(number(numbers, a)),
-        Node::And(a, b) => Node::And(number(numbers, a), number(numbers, b)),
-        Node::Or(a, b) => Node::Or(number(numbers, a), number(numbers, b)),
-        Node::Previous(a) => Node::Previous(number(numbers, a)),
-        Node::Since(a, b) => Node::Since(number(numbers, a), number(numbers, b)),
-        Node::Always(a) => Node::Always(number(numbers, a)),
-        Node::Once(a) => Node::Once(number(numbers, a)),
+        Node::Not(a) => Node::Not(number(a)),
+        Node::And(a, b) => Node::And(number(a), number(b)),
+        Node::Or(a, b) => Node::Or(number(a), number(b)),
+        Node::Previous(a) => Node::Previous(number(a)),
+        Node::Since(a, b) => Node::Since(number(a), number(b)),
+        Node::Always(a) => Node::Always(number(a)),
+        Node::Once(a) => Node::Once(number(a)),
     }
 }
 

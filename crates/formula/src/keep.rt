@@ -1,7 +1,8 @@
 ghost use Rattle.std.specs.Prelude.{◌≡◌, ℕ, ◌<◌, false, ◌&&◌, ◌||◌, [], ◌∷◌, length, if◌then◌else◌, slice_index_or};
 ghost use Rattle.formula.specs.Items.{lasting, is_always, looks_back, back_below, kept_items, Appended, Keeps, Selected};
 
-use super::reach::{is_marked, mark};
+use super::reach::mark;
+use super::table::at;
 use super::{Item, Node};
 
 // Whether the held item of a node is kept.
@@ -35,7 +36,7 @@ fn looked_back(nodes: &[Node], marks: &[bool]) -> [bool; 128]
 {
     let mut back = [false; 128];
     for (i, node) in nodes.iter().enumerate() {
-        look_back(&mut back, *node, is_marked(marks, i));
+        look_back(&mut back, *node, at(marks, i, false));
     }
     back
 }
@@ -68,7 +69,7 @@ pub fn keep_items(nodes: &[Node], marks: &[bool], items: &mut [Item]) -> Option<
     let back = looked_back(nodes, marks);
     let mut len = 0;
     for (i, node) in nodes.iter().enumerate() {
-        let used = is_marked(marks, i);
+        let used = at(marks, i, false);
         let held = keeps_held(*node, used, back[i]);
         let failed = keeps_failed(*node, used);
         len = put(items, len, held, Item::Held(i as u8))?;

@@ -7,10 +7,12 @@ mod join;
 mod keep;
 mod keys;
 mod reach;
+mod table;
 
 pub use join::merge;
 pub use keep::keep_items;
-pub use reach::{is_marked, mark, mark_resting};
+pub use reach::{mark, mark_resting};
+pub use table::at;
 
 // A wish as a node: operands are the numbers of earlier nodes. `Since(a, b)` is "a since b".
 #[derive(Clone, Copy, Debug, PartialEq, Eq, Default)]

@@ -1,15 +1,9 @@
 ghost use Rattle.formula.specs.Formulas.{earlier};
 ghost use Rattle.formula.specs.Resting.{operands, all_marked, spread, Exact, Rested};
-ghost use Rattle.std.specs.Prelude.{◌≡◌, true, false, length, slice_index_or, slice_set};
+ghost use Rattle.std.specs.Prelude.{◌≡◌, true, length, slice_set};
 
 use super::Node;
-
-// Whether a place is marked. None is past the end.
-pub fn is_marked(marks: &[bool], place: usize) -> bool
-    ensures { result ≡ slice_index_or marks.now place false }
-{
-    marks.get(place).copied().unwrap_or(false)
-}
+use super::table::at;
 
 // Marks a place, unless it is past the end. The contract of `get_mut` does not say what the table becomes.
 pub fn mark(marks: &mut [bool], place: usize)
@@ -49,7 +43,7 @@ fn mark_below(marks: &mut [bool], nodes: &[Node])
     ensures { marks.new ≡ spread nodes.now (length nodes.now) marks.old }
 {
     for (i, node) in nodes.iter().enumerate().rev() {
-        if is_marked(marks, i) {
+        if at(marks, i, false) {
             mark_operands(marks, *node);
         }
     }

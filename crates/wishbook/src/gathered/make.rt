@@ -6,7 +6,7 @@ ghost use Rattle.wishbook.specs.Book.{renamed, items_over};
 ghost use Rattle.wishbook.specs.Contents.{Remembered};
 
 use bounded::Bounded;
-use formula::{Item, Node, keep_items, mark_resting, merge};
+use formula::{Item, Node, at, keep_items, mark_resting, merge};
 use wishlayout::Wish;
 
 // The different nodes, and the number of each word's node.
@@ -30,7 +30,7 @@ pub(super) fn rename_all(wishes: &Bounded<Wish, 16>, numbers: &[u8]) -> Bounded<
     let mut all = Bounded::new();
     for wish in wishes.as_slice() {
         let _ = all.push(Wish {
-            node: numbers.get(wish.node as usize).copied().unwrap_or(0),
+            node: at(numbers, wish.node as usize, 0),
             raised: wish.raised,
         });
     }

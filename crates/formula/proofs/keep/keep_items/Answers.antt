@@ -6,8 +6,8 @@ use Rattle.formula.proofs.keep.keep_items.Goals as goal
 pub returns-in_err-len-clause-answer : goal.returns-in_err-len-clause-answer
 returns-in_err-len-clause-answer c =
     let back = c.looked_back-back.ensures c.loop-i.i (omega arith) in
-    refused_held c.args.nodes.now c.args.marks.now c.loop-i.i _ c.loop-i-test.true c.is_marked-used.result _ c.keeps_held-held.result c.keeps_failed-failed.result
-    c.is_marked-used.ensures
+    refused_held c.args.nodes.now c.args.marks.now c.loop-i.i _ c.loop-i-test.true c.at-used.result _ c.keeps_held-held.result c.keeps_failed-failed.result
+    c.at-used.ensures
     back
     c.keeps_held-held.ensures
     c.keeps_failed-failed.ensures
@@ -29,8 +29,8 @@ returns-in_err-len-2-clause-answer c =
     c.loop-i.invariant
     c.in_ok-len.ensures
     c.put.auto.items in
-    refused_failed c.args.nodes.now c.args.marks.now c.loop-i.i _ c.loop-i-test.true c.is_marked-used.result _ c.keeps_held-held.result c.keeps_failed-failed.result
-    c.is_marked-used.ensures
+    refused_failed c.args.nodes.now c.args.marks.now c.loop-i.i _ c.loop-i-test.true c.at-used.result _ c.keeps_held-held.result c.keeps_failed-failed.result
+    c.at-used.ensures
     back
     c.keeps_held-held.ensures
     c.keeps_failed-failed.ensures
@@ -58,6 +58,6 @@ loop-i-preserved c =
     c.put-in-loop-i.auto.items in
     let back = c.looked_back-back.ensures c.loop-i.i (omega arith) in
     subst (Filled c.args.items.now c.put-in-loop-i.new.items c.in_ok-len-2.len)
-    (next c.args.nodes.now c.args.marks.now c.loop-i.i _ c.loop-i-test.true c.is_marked-used.result _ c.keeps_held-held.result c.keeps_failed-failed.result
-    c.is_marked-used.ensures back c.keeps_held-held.ensures c.keeps_failed-failed.ensures)
+    (next c.args.nodes.now c.args.marks.now c.loop-i.i _ c.loop-i-test.true c.at-used.result _ c.keeps_held-held.result c.keeps_failed-failed.result
+    c.at-used.ensures back c.keeps_held-held.ensures c.keeps_failed-failed.ensures)
     second

@@ -9,10 +9,10 @@ loop-i-init c = (refl, λ k l. get_or-replicate 128 k false false l)
 pub loop-i-preserved : goal.loop-i-preserved
 loop-i-preserved c = (
   search rules,
-  back_more c.args.nodes.now c.args.marks.now c.loop-i.back c.look_back.new.back c.is_marked.result c.loop-i.i _
+  back_more c.args.nodes.now c.args.marks.now c.loop-i.back c.look_back.new.back c.at.result c.loop-i.i _
       c.loop-i-test.true
       c.loop-i.invariant.0
       c.loop-i.invariant.1
-      c.is_marked.ensures
+      c.at.ensures
       c.look_back.ensures,
 )
