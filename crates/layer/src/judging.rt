@@ -5,7 +5,7 @@ ghost use Rattle.layer.specs.Judging.{recalled as recalled_in, verdict as verdic
 ghost use Rattle.layer.specs.Tables.{told};
 
 use crate::recalled::Recalled;
-use formula::{Node, is_marked};
+use formula::Node;
 use truth::shows;
 use wishbook::WishBook;
 
@@ -13,7 +13,7 @@ use wishbook::WishBook;
 pub(crate) fn at(table: &[bool], node: u8) -> bool
     ensures { result ≡ slice_index_or table.now node false }
 {
-    is_marked(table, node as usize)
+    formula::at(table, node as usize, false)
 }
 
 // The truth of the next node, after the nodes before it.
