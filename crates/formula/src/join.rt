@@ -2,8 +2,8 @@ ghost use Rattle.formula.specs.Formulas.{earlier};
 ghost use Rattle.formula.specs.Merging.{renumbered, Faithful, Merges};
 ghost use Rattle.std.specs.Prelude.{◌≡◌, true};
 
-use super::Node;
 use super::table::at;
+use super::{NODES, Node};
 use register::Register;
 
 // The word with its operands through the numbers of the words before it.
@@ -30,7 +30,7 @@ pub fn merge(words: &[Node], nodes: &mut [Node], numbers: &mut [u8]) -> Option<u
     ensures answer { Merges words.now nodes.old nodes.new numbers.old numbers.new result }
     ensures faithful { earlier words.now ≡ true → Faithful words.now }
 {
-    if words.len() > 128 || words.len() > numbers.len() {
+    if words.len() > NODES || words.len() > numbers.len() {
         return None;
     }
     let mut register = Register::new(nodes);

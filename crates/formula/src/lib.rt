@@ -14,6 +14,10 @@ pub use keep::keep_items;
 pub use reach::{mark, mark_resting};
 pub use table::at;
 
+// How many nodes there may be: a number of a node is a byte, and more are answered with none. A list of at most so many nodes in place of a
+// slice would say the same, and ask callers for one.
+pub const NODES: usize = 128;
+
 // A wish as a node: operands are the numbers of earlier nodes. `Since(a, b)` is "a since b".
 #[derive(Clone, Copy, Debug, PartialEq, Eq, Default)]
 pub enum Node {

@@ -2,8 +2,8 @@ ghost use Rattle.formula.specs.Formulas.{earlier};
 ghost use Rattle.formula.specs.Resting.{operands, all_marked, spread, Exact, Rested};
 ghost use Rattle.std.specs.Prelude.{◌≡◌, true, length, slice_set};
 
-use super::Node;
 use super::table::at;
+use super::{NODES, Node};
 
 // Marks a place, unless it is past the end. The contract of `get_mut` does not say what the table becomes.
 pub fn mark(marks: &mut [bool], place: usize)
@@ -49,16 +49,16 @@ fn mark_below(marks: &mut [bool], nodes: &[Node])
     }
 }
 
-// For each node, whether some root rests on it; the places past the last node are not marked. There is no answer for more than 128 nodes.
+// For each node, whether some root rests on it; the places past the last node are not marked. There is no answer for more than `NODES` nodes.
 #[tactic(auto, using(crate::proofs::Marks::exact))]
-pub fn mark_resting(nodes: &[Node], roots: &[u8]) -> Option<[bool; 128]>
+pub fn mark_resting(nodes: &[Node], roots: &[u8]) -> Option<[bool; NODES]>
     ensures marked { Rested nodes.now roots.now result }
     ensures exact { earlier nodes.now ≡ true → Exact nodes.now roots.now }
 {
-    if nodes.len() > 128 {
+    if nodes.len() > NODES {
         return None;
     }
-    let mut marks = [false; 128];
+    let mut marks = [false; NODES];
     let used = &mut marks[..nodes.len()];
     mark_all(used, roots);
     mark_below(used, nodes);

@@ -56,7 +56,5 @@ pub(super) fn remember(
     ensures { Remembered (items_over (listed nodes.now) (listed wishes.now)) result }
 {
     let marks = mark_resting(nodes, &roots(wishes))?;
-    let mut items = [Item::default(); 16];
-    let count = keep_items(nodes, &marks[..nodes.len()], &mut items)?;
-    Some(Bounded::from_slice(&items[..count]))
+    keep_items(nodes, &marks[..nodes.len()])
 }

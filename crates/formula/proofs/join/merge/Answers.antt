@@ -6,8 +6,8 @@ use Rattle.formula.proofs.Same.{entered}
 use Rattle.formula.proofs.Tables.{reached_none, place_small, reached_more, overfull, written}
 use Rattle.formula.proofs.join.merge.Goals as goal
 
-pub returns-then-words-gt128-clause-answer : goal.returns-then-words-gt128-clause-answer
-returns-then-words-gt128-clause-answer c = inl (record { why = ⊎_elim inl (λ p. inr p.1) c.then-words-gt128.either; nodes_same = refl; numbers_same = refl })
+pub returns-then-words-gt-NODES-clause-answer : goal.returns-then-words-gt-NODES-clause-answer
+returns-then-words-gt-NODES-clause-answer c = inl (record { why = ⊎_elim inl (λ p. inr p.1) c.then-words-gt-NODES.either; nodes_same = refl; numbers_same = refl })
 
 pub loop-i-init : goal.loop-i-init
 loop-i-init c =
@@ -31,7 +31,7 @@ returns-in_err-place-clause-answer c =
     c.args.nodes.now
     c.enter.new.self.keys.now
     c.enter.new.self.len
-    c.if-words-gt128.false
+    c.if-words-gt-NODES.false
     c.new-register.ensures.table
     answer.0
     answer.1
@@ -59,7 +59,7 @@ overflow_cast-numbers c =
     c.renumber-node.ensures
     c.in_ok-place.place
     (entered _ decides-law c.renumber-node.result (length c.loop-i.register.keys.now) (listed c.loop-i.register) (listed c.enter.new.self) (Some c.in_ok-place.place) c.in_ok-place.ensures.answer).0 in
-    omega (arith, small, c.if-words-gt128.false, c.loop-i-test.true)
+    omega (arith, small, c.if-words-gt-NODES.false, c.loop-i-test.true)
 
 pub loop-i-preserved : goal.loop-i-preserved
 loop-i-preserved c =
@@ -93,15 +93,15 @@ returns-clause-answer c =
     c.loop-i.invariant.0
     c.loop-i.register.fits
     (omega arith)
-    c.if-words-gt128.false
+    c.if-words-gt-NODES.false
     c.if-words-numbers.false
     c.new-register.ensures.table
     (search rules)
     _
     (search rules)
 
-pub returns-then-words-gt128-clause-faithful : goal.returns-then-words-gt128-clause-faithful
-returns-then-words-gt128-clause-faithful c = faithful c.args.words.now
+pub returns-then-words-gt-NODES-clause-faithful : goal.returns-then-words-gt-NODES-clause-faithful
+returns-then-words-gt-NODES-clause-faithful c = faithful c.args.words.now
 
 pub returns-in_err-place-clause-faithful : goal.returns-in_err-place-clause-faithful
 returns-in_err-place-clause-faithful c = faithful c.args.words.now
