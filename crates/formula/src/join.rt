@@ -4,7 +4,15 @@ ghost use Rattle.std.specs.Prelude.{◌≡◌, true};
 
 use super::table::at;
 use super::{NODES, Node};
+use bounded::Bounded;
 use register::Register;
+
+// The different nodes of some words, in order of first appearance, and the number of each word's node.
+#[derive(Clone, Copy)]
+pub struct Merged {
+    pub nodes: Bounded<Node, NODES>,
+    pub numbers: Bounded<u8, NODES>,
+}
 
 // The word with its operands through the numbers of the words before it.
 fn renumber(numbers: &[u8], word: Node) -> Node
@@ -24,20 +32,24 @@ fn renumber(numbers: &[u8], word: Node) -> Node
     }
 }
 
-// Merges node words: the different nodes go to `nodes`, the number of each word's node to `numbers`, and the answer is how many nodes there are.
-// There is none for more than 128 words, or where a table is too short.
-pub fn merge(words: &[Node], nodes: &mut [Node], numbers: &mut [u8]) -> Option<usize>
-    ensures answer { Merges words.now nodes.old nodes.new numbers.old numbers.new result }
+// Merges node words. There is no answer for more than `NODES` of them.
+pub fn merge(words: &[Node]) -> Option<Merged>
+    ensures answer { Merges words.now result }
     ensures faithful { earlier words.now ≡ true → Faithful words.now }
 {
-    if words.len() > NODES || words.len() > numbers.len() {
+    if words.len() > NODES {
         return None;
     }
-    let mut register = Register::new(nodes);
-    for (i, word) in words.iter().enumerate() {
-        let node = renumber(&numbers[..i], *word);
+    let mut table = [Node::default(); NODES];
+    let mut register = Register::new(&mut table);
+    let mut numbers = Bounded::new();
+    for word in words {
+        let node = renumber(&numbers, *word);
         let place = register.enter(node)?;
-        numbers[i] = place as u8;
+        let _ = numbers.push(place as u8);
     }
-    Some(register.len())
+    Some(Merged {
+        nodes: Bounded::from_slice(register.as_slice()),
+        numbers,
+    })
 }

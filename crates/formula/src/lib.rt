@@ -9,7 +9,7 @@ mod keys;
 mod reach;
 mod table;
 
-pub use join::merge;
+pub use join::{Merged, merge};
 pub use keep::keep_items;
 pub use reach::{mark, mark_resting};
 pub use table::at;

@@ -9,10 +9,10 @@ ghost use Rattle.wishlayout.specs.Layout.{Draft as Drafted, wish_format};
 ghost use Rattle.wishlayout.specs.Wishes.{Wishes};
 
 use super::Gathered;
-use super::make::{merged, remember, rename_all};
+use super::make::{remember, rename_all};
 use crate::book::WishBook;
 use bounded::Bounded;
-use formula::Node;
+use formula::{Node, merge};
 use refusal::Refusal;
 use wishlayout::{END, WISH, Wish, read_node, read_wish_word};
 use words::{Draft, Turn};
@@ -83,11 +83,11 @@ impl Draft for Gathered {
         if self.wishes.is_empty() {
             return Err(Refusal::WrongKind);
         }
-        let (nodes, numbers) = merged(&self.nodes);
-        let wishes = rename_all(&self.wishes, &numbers);
-        let items = remember(&nodes, &wishes).ok_or(Refusal::TooManyItems)?;
+        let merged = merge(&self.nodes).unwrap();
+        let wishes = rename_all(&self.wishes, &merged.numbers);
+        let items = remember(&merged.nodes, &wishes).ok_or(Refusal::TooManyItems)?;
         Ok(WishBook {
-            nodes,
+            nodes: merged.nodes,
             wishes,
             items,
         })
