@@ -28,7 +28,8 @@ fn look_back(back: &mut [bool], node: Node)
     }
 }
 
-// For each number, whether a previous that is used has the node of that number as its operand.
+// For each number, whether a previous that is used has the node of that number as its operand. Like the marks it is a table by number beside
+// the nodes: those are lent, and one list of all three would copy them.
 fn looked_back(nodes: &[Node], marks: &[bool]) -> [bool; NODES]
     ensures { (k : ℕ) → k < 128 → slice_index_or result k false ≡ back_below nodes.now marks.now (length nodes.now) k }
 {

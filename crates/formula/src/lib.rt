@@ -14,8 +14,7 @@ pub use keep::keep_items;
 pub use reach::{mark, mark_resting};
 pub use table::at;
 
-// How many nodes there may be: a number of a node is a byte, and more are answered with none. A list of at most so many nodes in place of a
-// slice would say the same, and ask callers for one.
+// How many nodes are numbered. A slice of any length is answered, a longer one by `None`: a bounded list in its place would ask more of callers.
 pub const NODES: usize = 128;
 
 // A wish as a node: operands are the numbers of earlier nodes. `Since(a, b)` is "a since b".

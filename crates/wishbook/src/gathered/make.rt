@@ -8,7 +8,7 @@ use bounded::Bounded;
 use formula::{Item, Node, at, keep_items, mark_resting};
 use wishlayout::Wish;
 
-// The wishes, each by the number of its node. A bounded list is filled by `push`: nothing collects into one.
+// The wishes, each by the number of its node. Here and in `roots` a loop fills the list by `push`: nothing collects into a bounded list.
 pub(super) fn rename_all(wishes: &Bounded<Wish, 16>, numbers: &[u8]) -> Bounded<Wish, 16>
     ensures { listed result ≡ map (renamed numbers.now) (listed wishes.now) }
 {
