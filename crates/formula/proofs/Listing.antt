@@ -20,9 +20,6 @@ pub unwanted : (b : Bool) (x : Item) (xs ys : List Item) → b ≡ false → ys 
 unwanted true x xs ys e same = absurd (both_ways true e refl)
 unwanted false x xs ys e same = same ∙ sym (append-nil xs)
 
-ge_of_not : (most : ℕ) (xs : List Item) → (length xs < most → ⊥) → most ≤ length xs
-ge_of_not most xs full = elim (cases_lt (length xs) most) [ inl l ↦ absurd (full l) | inr past ↦ past ]
-
 wanted-length : (b : Bool) (x : Item) (xs : List Item) → b ≡ true → length (xs ++ cond b (x ∷ []) []) ≡ length xs + 1
 wanted-length true x xs e = length_push xs x
 wanted-length false x xs e = absurd (both_ways false refl e)
@@ -112,11 +109,11 @@ module _ {nodes ns ns' : List Node} {used ms ms' : List Bool} {i j : ℕ} {n : N
     -- or there is no room for one of them
     pub over_held : {most : ℕ} (r : Option (Bounded Item most)) → h ≡ true → (length xs < most → ⊥) → r ≡ None → Keeps nodes used r
     over_held {most} r is_kept full e =
-        subst (Keeps nodes used) (sym e) (inr (few, omega (arith, all_more, wanted-length h (Held k) xs is_kept, ge_of_not most xs full)))
+        subst (Keeps nodes used) (sym e) (inr (few, omega (arith, all_more, wanted-length h (Held k) xs is_kept, full)))
 
     pub over_failed : {most : ℕ} (r : Option (Bounded Item most)) (ys : List Item) → ys ≡ xs ++ cond h (Held k ∷ []) [] → f ≡ true → (length ys < most → ⊥) → r ≡ None → Keeps nodes used r
     over_failed {most} r ys half is_kept full e =
-        subst (Keeps nodes used) (sym e) (inr (few, omega (arith, all_more, wanted-length f (Failed k) [] is_kept, ap length half, ge_of_not most ys full)))
+        subst (Keeps nodes used) (sym e) (inr (few, omega (arith, all_more, wanted-length f (Failed k) [] is_kept, ap length half, full)))
 
 -- the pass ends with the nodes or with the marks
 pub all_listed : {nodes ns : List Node} {used ms : List Bool} {i : ℕ} {xs : List Item} → Going nodes used ns ms i xs → (length ns ≡ 0) ⊎ (length ms ≡ 0) → xs ≡ kept_items nodes used

@@ -2,7 +2,7 @@
 use Rattle.std.proofs.Common.{◌≡◌, ℕ, zero, suc, ◌+◌, ◌-◌, ◌<◌, ◌≤◌, Bool, true, false, cond, ◌&&◌, ◌||◌, List, [], ◌∷◌, ◌++◌, length, get_or, take, drop, min, replicate, sym, refl, ap, ◌∙◌, inl, inr, arith, rules}
 use Rattle.std.proofs.lemmas.List.{append-nil, get_or_past, get_or-take, get_or_push, length_push, take_at, take-take, take-replicate, drop-replicate}
 use Rattle.std.proofs.Math.Bool.{or-false}
-use Rattle.std.proofs.lemmas.Bool.{cases_lt, cond-true, cond-false}
+use Rattle.std.proofs.lemmas.Bool.{cases_lt, cond-true}
 use Rattle.formula.specs.declared.Node.{Node}
 use Rattle.formula.specs.declared.Node.TheVariants.{True}
 use Rattle.formula.specs.Items.{looks_back, back_below, items_at, items_below}
@@ -38,11 +38,6 @@ module _ (nodes rest rest' : List Node) (n : Node) (left : Left nodes rest) (nex
   spread_marked ms ms' here e =
       ap (spread nodes (length rest')) (e ∙ sym (cond-true (get_or ms (length rest') false) (all_marked ms (operands n)) ms here)) ∙ sym (step_is ms)
 
-  -- or it is not
-  pub spread_unmarked : (ms : List Bool) → get_or ms (length rest') false ≡ false → spread nodes (length rest') ms ≡ spread nodes (length rest) ms
-  spread_unmarked ms here =
-      ap (spread nodes (length rest')) (sym (cond-false (get_or ms (length rest') false) (all_marked ms (operands n)) ms here)) ∙ sym (step_is ms)
-
 -- both passes, in the front of a table of 128
 pub rested : (nodes : List Node) (roots : List ℕ) (ms last : List Bool) (k : ℕ) → length nodes ≤ 128 → k ≡ length nodes → ms ≡ all_marked (take k (replicate 128 false)) roots → last ≡ spread nodes (length nodes) ms → last ++ drop k (replicate 128 false) ≡ resting nodes roots ++ replicate (128 - length nodes) false
 rested nodes roots ms last k l k-is ms-is last-is =
@@ -67,7 +62,7 @@ back_more nodes used back back' i j n next n-is u-is long so_far told k m =
 
 module _ (nodes : List Node) (used : List Bool) (n : ℕ) (past : length used ≤ n) where
   -- past the marks nothing is used
-  pub back_past : (k i : ℕ) → n ≤ k → back_below nodes used n i ≡ back_below nodes used k i
+  back_past : (k i : ℕ) → n ≤ k → back_below nodes used n i ≡ back_below nodes used k i
   back_past zero i l = let e : n ≡ 0 = omega arith in ap (λ (m : ℕ). back_below nodes used m i) e
   back_past (suc k) i l =
       elim (cases_lt n (suc k)) [

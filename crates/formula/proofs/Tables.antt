@@ -6,12 +6,12 @@ use Rattle.register.proofs.Keys.{place_of_le, enter-length}
 use Rattle.formula.specs.declared.Node.{Node}
 use Rattle.formula.specs.Merging.{same_node, renumbered, SoFar, merge_one, merge_from, merge_all, nodes_of, numbers_of}
 
-pub merge_from-append : (m : SoFar) (ws vs : List Node) → merge_from m (ws ++ vs) ≡ merge_from (merge_from m ws) vs
+merge_from-append : (m : SoFar) (ws vs : List Node) → merge_from m (ws ++ vs) ≡ merge_from (merge_from m ws) vs
 merge_from-append m [] vs = refl
 merge_from-append m (w ∷ ws) vs = merge_from-append (merge_one m w) ws vs
 
 -- one word more
-pub merge_all_more : (ws : List Node) (i : ℕ) (d : Node) → i < length ws → merge_all (take (i + 1) ws) ≡ merge_one (merge_all (take i ws)) (get_or ws i d)
+merge_all_more : (ws : List Node) (i : ℕ) (d : Node) → i < length ws → merge_all (take (i + 1) ws) ≡ merge_one (merge_all (take i ws)) (get_or ws i d)
 merge_all_more ws i d l =
     ap merge_all (take_more ws i d l) ∙ merge_from-append (record { held = []; numbers = [] }) (take i ws) (get_or ws i d ∷ [])
 
@@ -23,7 +23,7 @@ held-length m (w ∷ ws) = (
   omega (arith, enter-length same_node (renumbered m.numbers w) m.held, held-length (merge_one m w) ws),
 )
 
-pub nodes_of-length : (ws : List Node) → length (nodes_of ws) ≤ length ws
+nodes_of-length : (ws : List Node) → length (nodes_of ws) ≤ length ws
 nodes_of-length ws = omega (arith, (held-length (record { held = []; numbers = [] }) ws).1)
 
 -- each word has its number
