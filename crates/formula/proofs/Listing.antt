@@ -44,30 +44,39 @@ module _ (nodes : List Node) (used : List Bool) where
         | inr past ↦ let e : i ≡ suc k = omega arith in omega (arith, ap (λ (j : ℕ). length (items_below nodes used j)) e)
       ]
 
--- the pass has come to place i: what is left of the nodes and of the marks, and the items so far
-pub record Going (nodes : List Node) (used : List Bool) (ns : List Node) (ms : List Bool) (i : ℕ) (xs : List Item) : Type 0 where
+-- the pass has come to place i: what is left of the nodes, of their marks and of the table of what is looked back at, and the items so far
+pub record Going (nodes : List Node) (used back : List Bool) (ns : List Node) (ms bs : List Bool) (i : ℕ) (xs : List Item) : Type 0 where
   pub nodes_left : ns ≡ drop i nodes
   pub marks_left : ms ≡ drop i used
+  pub backs_left : bs ≡ drop i back
+  pub room : length back ≡ 128
+  pub looked : (k : ℕ) → k < 128 → get_or back k false ≡ back_below nodes used (length nodes) k
   pub early : i ≤ length nodes
   pub kept : xs ≡ items_below nodes used i
 
-module _ {nodes ns ns' : List Node} {used ms ms' : List Bool} {i j : ℕ} {n : Node} {m : Bool} {xs : List Item} (going : Going nodes used ns ms i xs) (turn : (ns ≡ n ∷ ns') × (ms ≡ m ∷ ms')) (next_is : j ≡ i + 1) where
+module _ {nodes ns ns' : List Node} {used back ms ms' bs bs' : List Bool} {i j : ℕ} {n : Node} {m b : Bool} {xs : List Item} (going : Going nodes used back ns ms bs i xs) (turn : ((ns ≡ n ∷ ns') × (ms ≡ m ∷ ms')) × (bs ≡ b ∷ bs')) (next_is : j ≡ i + 1) where
   here : n ∷ ns' ≡ drop i nodes
-  here = sym turn.0 ∙ going.nodes_left
+  here = sym turn.0.0 ∙ going.nodes_left
 
   mark : m ∷ ms' ≡ drop i used
-  mark = sym turn.1 ∙ going.marks_left
+  mark = sym turn.0.1 ∙ going.marks_left
 
-  moved : (ys : List Item) → ys ≡ items_below nodes used (i + 1) → Going nodes used ns' ms' j ys
+  looked_at : b ∷ bs' ≡ drop i back
+  looked_at = sym turn.1 ∙ going.backs_left
+
+  moved : (ys : List Item) → ys ≡ items_below nodes used (i + 1) → Going nodes used back ns' ms' bs' j ys
   moved ys e = record {
     nodes_left = left_more nodes ns' n i here ∙ ap (λ (k : ℕ). drop k nodes) (sym next_is);
     marks_left = left_more used ms' m i mark ∙ ap (λ (k : ℕ). drop k used) (sym next_is);
+    backs_left = left_more back bs' b i looked_at ∙ ap (λ (k : ℕ). drop k back) (sym next_is);
+    room = going.room;
+    looked = going.looked;
     early = omega (arith, left_in nodes ns' n i here);
     kept = e ∙ ap (items_below nodes used) (sym next_is);
   }
 
   -- a node that is not used keeps nothing
-  pub skipped : m ≡ false → Going nodes used ns' ms' j xs
+  pub skipped : m ≡ false → Going nodes used back ns' ms' bs' j xs
   skipped unmarked =
       let unused : get_or used i false ≡ false = sym (left_at used ms' m i mark false) ∙ unmarked in
       let e : suc i ≡ i + 1 = omega arith in
@@ -75,15 +84,15 @@ module _ {nodes ns ns' : List Node} {used ms ms' : List Bool} {i j : ℕ} {n : N
       moved xs (going.kept ∙ sym (append-nil (items_below nodes used i)) ∙ ap (λ l. items_below nodes used i ++ l) (sym none) ∙ ap (items_below nodes used) e)
 
   -- of one that is, the pass tests for both its items
-  module _ {k : ℕ} {h f : Bool} (back : List Bool) (k_is : k ≡ i) (is_used : m ≡ true) (few : length nodes ≤ 128) (looked : (k : ℕ) → k < 128 → get_or back k false ≡ back_below nodes used (length nodes) k) (h_is : h ≡ (lasting n || get_or back k false)) (f_is : f ≡ is_always n) where
+  module _ {k : ℕ} {h f : Bool} (k_is : k ≡ i) (is_used : m ≡ true) (few : length nodes ≤ 128) (h_is : h ≡ (lasting n || b)) (f_is : f ≡ is_always n) where
     marked : true ≡ get_or used i false
     marked = sym is_used ∙ left_at used ms' m i mark false
 
     held : h ≡ (get_or used i false && (lasting (get_or nodes i True) || back_below nodes used (length nodes) i))
     held =
         h_is
-        ∙ ap (λ (j : ℕ). lasting n || get_or back j false) k_is
-        ∙ ap (λ v. lasting n || v) (looked i (omega (arith, left_in nodes ns' n i here)))
+        ∙ ap (λ v. lasting n || v) (left_at back bs' b i looked_at false)
+        ∙ ap (λ v. lasting n || v) (going.looked i (omega (arith, left_in nodes ns' n i here)))
         ∙ ap (λ d. lasting d || back_below nodes used (length nodes) i) (left_at nodes ns' n i here True)
         ∙ ap (λ v. v && (lasting (get_or nodes i True) || back_below nodes used (length nodes) i)) marked
 
@@ -99,7 +108,7 @@ module _ {nodes ns ns' : List Node} {used ms ms' : List Bool} {i j : ℕ} {n : N
         ∙ (λ j. going.kept j ++ at j)
         ∙ ap (items_below nodes used) e
 
-    pub listed_both : (ys : List Item) → ys ≡ (xs ++ cond h (Held k ∷ []) []) ++ cond f (Failed k ∷ []) [] → Going nodes used ns' ms' j ys
+    pub listed_both : (ys : List Item) → ys ≡ (xs ++ cond h (Held k ∷ []) []) ++ cond f (Failed k ∷ []) [] → Going nodes used back ns' ms' bs' j ys
     listed_both ys e = moved ys (e ∙ both)
 
     all_more : length (xs ++ cond h (Held k ∷ []) []) + length (cond f (Failed k ∷ []) []) ≤ length (kept_items nodes used)
@@ -115,13 +124,16 @@ module _ {nodes ns ns' : List Node} {used ms ms' : List Bool} {i j : ℕ} {n : N
     over_failed {most} r ys half is_kept full e =
         subst (Keeps nodes used) (sym e) (inr (few, omega (arith, all_more, wanted-length f (Failed k) [] is_kept, ap length half, full)))
 
--- the pass ends with the nodes or with the marks
-pub all_listed : {nodes ns : List Node} {used ms : List Bool} {i : ℕ} {xs : List Item} → Going nodes used ns ms i xs → (length ns ≡ 0) ⊎ (length ms ≡ 0) → xs ≡ kept_items nodes used
-all_listed {nodes} {ns} {used} {ms} {i} going end =
+-- the pass ends with the nodes or with the marks, since the table is as long as there may be nodes
+pub all_listed : {nodes ns : List Node} {used back ms bs : List Bool} {i : ℕ} {xs : List Item} → Going nodes used back ns ms bs i xs → length nodes ≤ 128 → ((length ns ≡ 0) ⊎ (length ms ≡ 0)) ⊎ (length bs ≡ 0) → xs ≡ kept_items nodes used
+all_listed {nodes} {ns} {used} {back} {ms} {bs} {i} going few end =
     going.kept
     ∙ elim end [
-      | inl none ↦
+      | inl (inl none) ↦
           let e : i ≡ length nodes = omega (arith, length-drop i nodes, ap length going.nodes_left, going.early) in
           ap (items_below nodes used) e
-      | inr none ↦ items_past nodes used i (omega (arith, length-drop i used, ap length going.marks_left)) (length nodes) going.early
+      | inl (inr none) ↦ items_past nodes used i (omega (arith, length-drop i used, ap length going.marks_left)) (length nodes) going.early
+      | inr none ↦
+          let e : i ≡ length nodes = omega (arith, length-drop i back, ap length going.backs_left, going.room, going.early) in
+          ap (items_below nodes used) e
     ]

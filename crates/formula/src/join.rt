@@ -32,7 +32,8 @@ fn renumber(numbers: &[u8], word: Node) -> Node
     }
 }
 
-// Merges node words. There is no answer for more than `NODES` of them.
+// Merges node words. There is no answer for more than `NODES` of them. A register lists its keys in a table that it is lent: here one that is
+// copied at the end.
 pub fn merge(words: &[Node]) -> Option<Merged>
     ensures answer { Merges words.now result }
     ensures faithful { earlier words.now ≡ true → Faithful words.now }

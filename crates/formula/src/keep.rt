@@ -51,11 +51,11 @@ pub fn keep_items<const MOST: usize>(nodes: &[Node], marks: &[bool]) -> Option<B
     if nodes.len() > NODES {
         return None;
     }
-    let back = looked_back(nodes, marks);
+    let looked = looked_back(nodes, marks);
     let mut items = Bounded::new();
-    for (i, (node, marked)) in nodes.iter().zip(marks).enumerate() {
+    for (i, ((node, marked), back)) in nodes.iter().zip(marks).zip(&looked).enumerate() {
         if *marked {
-            if keeps_held(*node, back[i]) {
+            if keeps_held(*node, *back) {
                 items.push(Item::Held(i as u8)).ok()?;
             }
             if keeps_failed(*node) {

@@ -38,7 +38,7 @@ fn mark_all(marks: &mut [bool], places: &[u8])
     }
 }
 
-// From the highest node down: where one is marked, so are its operands.
+// From the highest node down: where one is marked, so are its operands. The marks change on the way, so each is read by its number.
 fn mark_below(marks: &mut [bool], nodes: &[Node])
     ensures { marks.new ≡ spread nodes.now (length nodes.now) marks.old }
 {
