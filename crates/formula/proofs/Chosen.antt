@@ -2,20 +2,13 @@
 use Rattle.std.proofs.Common.{◌≡◌, ℕ, zero, suc, ◌+◌, ◌-◌, ◌*◌, ◌<◌, ◌≤◌, Bool, true, false, cond, ◌&&◌, ◌||◌, ◌⊎◌, List, [], ◌∷◌, ◌++◌, length, get_or, sym, refl, ap, ◌∙◌, subst, inl, inr, arith, rules}
 use Rattle.std.specs.List.{ContainsAt as Has}
 use Rattle.std.proofs.lemmas.List.{length-append, get_or_append_left, get_or-append_right}
-use Rattle.std.proofs.ByRecursion.{has_get_or, has_append_left, has_append_right}
+use Rattle.std.proofs.ByRecursion.{has_get_or, has_append_left, has_append_right, has_append_cases}
 use Rattle.std.proofs.lemmas.Bool.{both_ways, cases_lt, and_parts, and_from, or_cases, or_left, or_right, eqb-true, eq-eqb}
 use Rattle.formula.specs.declared.Node.{Node}
 use Rattle.formula.specs.declared.Node.TheVariants.{Label, True, Not, And, Or, Previous, Since, Always, Once}
 use Rattle.formula.specs.declared.Item.{Item}
 use Rattle.formula.specs.declared.Item.TheVariants.{Held, Failed}
 use Rattle.formula.specs.Items.{lasting, is_always, looks_back, back_below, items_at, items_below, kept_items, rank, Remembered, Selected}
-
-has_append_cases : {X : Type 0} (xs ys : List X) (x : X) → Has (xs ++ ys) x → Has xs x ⊎ Has ys x
-has_append_cases xs ys x (k, l, at) =
-    elim (cases_lt k (length xs)) [
-      | inl in' ↦ inl (k, in', λ d. sym (get_or_append_left xs ys d k in') ∙ at d)
-      | inr past ↦ inr (k - length xs, omega (arith, length-append xs ys), λ d. sym (get_or-append_right xs ys (length xs) k d refl past) ∙ at d)
-    ]
 
 -- one item, where the test says so
 has_one : (b : Bool) (x y : Item) → Has (cond b (x ∷ []) []) y → (b ≡ true) × (x ≡ y)

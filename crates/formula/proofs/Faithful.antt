@@ -10,7 +10,7 @@ use Rattle.register.proofs.Steps.{kept_none}
 use Rattle.formula.specs.declared.Node.{Node}
 use Rattle.formula.specs.declared.Node.TheVariants.{Label, True, Not, And, Or, Previous, Since, Always, Once}
 use Rattle.formula.specs.Formulas.{Formula, truth, tree_of, formulas, operands_below, earlier_from, earlier}
-use Rattle.formula.specs.Merging.{same_node, renumbered, Merged, merge_one, merge_from, Faithful}
+use Rattle.formula.specs.Merging.{same_node, renumbered, SoFar, merge_one, merge_from, Faithful}
 use Rattle.formula.proofs.Trees.{formulas-push, length-formulas, formulas_at, operands_below_more, earlier_at, earlier-push}
 use Rattle.formula.proofs.Apart.{tree_of_apart}
 use Rattle.formula.proofs.KeptTrees.{kept_there, kept_new}
@@ -139,7 +139,7 @@ module _ (came held : List Node) (numbers : List ℕ) (w : Node) (sound : Sound 
       subst (λ (p : ℕ). Sound (came ++ (w ∷ [])) (held ++ (n ∷ [])) (numbers ++ (p ∷ []))) (sym e)
       (sound_new (λ p l at. place_of_before same_node same_node_decides n held p True (omega arith) at)))
 
-sound_all : (came ws : List Node) (m : Merged) → Sound came m.held m.numbers → earlier_from (length came) ws ≡ true → Sound (came ++ ws) (merge_from m ws).held (merge_from m ws).numbers
+sound_all : (came ws : List Node) (m : SoFar) → Sound came m.held m.numbers → earlier_from (length came) ws ≡ true → Sound (came ++ ws) (merge_from m ws).held (merge_from m ws).numbers
 sound_all came [] m sound h = search rules
 sound_all came (w ∷ ws) m sound h =
     let p = and_parts (operands_below (length came) w) (earlier_from (suc (length came)) ws) h in

@@ -6,7 +6,7 @@ pub mod Faithful
 pub mod Marks
 pub mod Chosen
 pub mod Passes
-pub mod Puts
+pub mod Listing
 pub mod Tables
 pub mod Padded
 pub mod Same

@@ -1,6 +1,7 @@
 -- The marks are exact: a node is marked if and only if it rests.
 use Rattle.std.proofs.Common.{◌≡◌, ℕ, zero, suc, ◌<◌, ◌≤◌, Bool, true, false, cond, ◌⊎◌, List, [], ◌∷◌, length, get_or, set, replicate, sym, refl, ap, ◌∙◌, subst, inl, inr, arith, rules}
 use Rattle.std.specs.List.{ContainsAt as Has, AllByRecursion as All}
+use Rattle.std.proofs.ByRecursion.{has_append_right}
 use Rattle.std.proofs.lemmas.List.{length-set, length-replicate, get_or-set_same, get_or-set_other, get_or-replicate, get_or_past}
 use Rattle.std.proofs.lemmas.Bool.{both_ways, cond_both, cond-true, cases_lt, cases_eq}
 use Rattle.formula.specs.declared.Node.{Node}
@@ -14,9 +15,6 @@ use Rattle.formula.proofs.Apart.{operands_are_below}
 has_first : (a : ℕ) (as' : List ℕ) (i : ℕ) → a ≡ i → Has (a ∷ as') i
 has_first a as' i e = (0, omega arith, λ d. e)
 
-has_later : (a : ℕ) (as' : List ℕ) (i : ℕ) → Has as' i → Has (a ∷ as') i
-has_later a as' i (k, l, at) = (suc k, omega arith, at)
-
 has_cases : (a : ℕ) (as' : List ℕ) (i : ℕ) → Has (a ∷ as') i → (a ≡ i) ⊎ Has as' i
 has_cases a as' i (zero, l, at) = inl (at 0)
 has_cases a as' i (suc k, l, at) = inr (k, omega arith, at)
@@ -24,7 +22,7 @@ has_cases a as' i (suc k, l, at) = inr (k, omega arith, at)
 none_has : (i : ℕ) → Has [] i → ⊥
 none_has i (k, l, at) = omega arith
 
-pub length-all_marked : (ms : List Bool) (as' : List ℕ) → length (all_marked ms as') ≡ length ms
+length-all_marked : (ms : List Bool) (as' : List ℕ) → length (all_marked ms as') ≡ length ms
 length-all_marked ms [] = refl
 length-all_marked ms (a ∷ as') = length-all_marked (set ms a true) as' ∙ length-set ms a true
 
@@ -60,7 +58,7 @@ all_marked_from : (ms : List Bool) (as' : List ℕ) (i : ℕ) → get_or (all_ma
 all_marked_from ms [] i h = inr h
 all_marked_from ms (a ∷ as') i h =
     elim (all_marked_from (set ms a true) as' i h) [
-      | inl had ↦ inl (has_later a as' i had)
+      | inl had ↦ inl (has_append_right (a ∷ []) as' i had)
       | inr was ↦ elim (set-from ms a i was) [ inl e ↦ inl (has_first a as' i e) | inr old ↦ inr old ]
     ]
 
@@ -69,6 +67,14 @@ all_marked_high ms [] k i low l = refl
 all_marked_high ms (a ∷ as') k i low l =
     let ne : i ≡ a → ⊥ = λ e. omega (arith, low.0) in
     all_marked_high (set ms a true) as' k i low.1 l ∙ get_or-set_other ms a i true false ne
+
+-- of no marks, none is at any place
+pub unmarked : (n i : ℕ) → get_or (replicate n false) i false ≡ false
+unmarked n i =
+    elim (cases_lt i n) [
+      | inl l ↦ get_or-replicate n i false false l
+      | inr past ↦ get_or_past (replicate n false) i false (omega (arith, length-replicate n false))
+    ]
 
 module _ (nodes : List Node) where
   -- the marks after node k
@@ -98,10 +104,6 @@ module _ (nodes : List Node) where
   spread_step : (k : ℕ) (ms : List Bool) → spread nodes (suc k) ms ≡ spread nodes k (turned k ms)
   unfolding turned
   spread_step k ms = refl
-
-  pub length-spread : (k : ℕ) (ms : List Bool) → length (spread nodes k ms) ≡ length ms
-  length-spread zero ms = refl
-  length-spread (suc k) ms = ap length (spread_step k ms) ∙ length-spread k (turned k ms) ∙ length-turned k ms
 
   spread_stays : (k : ℕ) (ms : List Bool) (i : ℕ) → get_or ms i false ≡ true → get_or (spread nodes k ms) i false ≡ true
   spread_stays zero ms i h = h
@@ -151,13 +153,6 @@ module _ (nodes : List Node) where
     spread_only (suc k) ms sound i h =
         spread_only k (turned k ms) (turned_only k ms sound) i (sym (ap (λ r. get_or r i false) (spread_step k ms)) ∙ h)
 
-    unmarked : (n i : ℕ) → get_or (replicate n false) i false ≡ false
-    unmarked n i =
-        elim (cases_lt i n) [
-          | inl l ↦ get_or-replicate n i false false l
-          | inr past ↦ get_or_past (replicate n false) i false (omega (arith, length-replicate n false))
-        ]
-
     first_only : (i : ℕ) → get_or (all_marked (replicate (length nodes) false) roots) i false ≡ true → Rests nodes roots i
     first_only i h =
         elim (all_marked_from (replicate (length nodes) false) roots i h) [
@@ -184,9 +179,6 @@ module _ (nodes : List Node) where
               (rests_marked h i rests in') had (omega (arith, length-first))
           | inr past ↦ absurd (no_operands i a past had)
         ]
-
-    pub length-resting : length (resting nodes roots) ≡ length nodes
-    length-resting = length-spread (length nodes) (all_marked (replicate (length nodes) false) roots) ∙ length-first
 
     pub exact : earlier nodes ≡ true → Exact nodes roots
     exact h = record {

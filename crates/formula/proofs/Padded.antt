@@ -1,21 +1,14 @@
 -- The marks in a table of 128 keep the same items as the marks of the nodes alone.
-use Rattle.std.proofs.Common.{◌≡◌, ℕ, zero, suc, ◌-◌, Bool, false, ◌&&◌, ◌||◌, List, ◌++◌, length, get_or, replicate, Some, sym, refl, ap, ◌∙◌, inl, inr, arith, rules}
-use Rattle.std.proofs.lemmas.List.{length-append, length-replicate, get_or_append_left, get_or-append_right, get_or_past, get_or-replicate}
+use Rattle.std.proofs.Common.{◌≡◌, ℕ, zero, suc, ◌-◌, Bool, false, ◌&&◌, ◌||◌, List, ◌++◌, length, get_or, replicate, Some, sym, refl, ap, ◌∙◌, inl, inr, rules}
+use Rattle.std.proofs.lemmas.List.{get_or_append_left, get_or-append_right, get_or_past}
 use Rattle.std.proofs.lemmas.Bool.{cases_lt}
 use Rattle.formula.specs.declared.Node.{Node}
 use Rattle.formula.specs.declared.Node.TheVariants.{True}
 use Rattle.formula.specs.Items.{looks_back, back_below, items_at, items_below, kept_items}
 use Rattle.formula.specs.Resting.{resting, Rested}
-use Rattle.formula.proofs.Marks.{length-resting}
+use Rattle.formula.proofs.Marks.{unmarked}
 
-unmarked : (k i : ℕ) → get_or (replicate k false) i false ≡ false
-unmarked k i =
-    elim (cases_lt i k) [
-      | inl l ↦ get_or-replicate k i false false l
-      | inr past ↦ get_or_past (replicate k false) i false (omega (arith, length-replicate k false))
-    ]
-
-pub padded_at : (ms : List Bool) (k i : ℕ) → get_or (ms ++ replicate k false) i false ≡ get_or ms i false
+padded_at : (ms : List Bool) (k i : ℕ) → get_or (ms ++ replicate k false) i false ≡ get_or ms i false
 padded_at ms k i =
     elim (cases_lt i (length ms)) [
       | inl l ↦ get_or_append_left ms (replicate k false) false i l
@@ -26,14 +19,9 @@ padded_at ms k i =
     ]
 
 -- the marks of the answer are those of the nodes,
-pub rested_at : (nodes : List Node) (roots : List ℕ) (ms : List Bool) → Rested nodes roots (Some ms) → (i : ℕ) → get_or ms i false ≡ get_or (resting nodes roots) i false
+rested_at : (nodes : List Node) (roots : List ℕ) (ms : List Bool) → Rested nodes roots (Some ms) → (i : ℕ) → get_or ms i false ≡ get_or (resting nodes roots) i false
 rested_at nodes roots ms (few, e) i =
     ap (λ m. get_or m i false) e ∙ padded_at (resting nodes roots) (128 - length nodes) i
-
-pub rested-length : (nodes : List Node) (roots : List ℕ) (ms : List Bool) → Rested nodes roots (Some ms) → length ms ≡ 128
-rested-length nodes roots ms (few, e) =
-    ap length e
-    ∙ omega (arith, length-append (resting nodes roots) (replicate (128 - length nodes) false), length-resting nodes roots, length-replicate (128 - length nodes) false)
 
 module _ (nodes : List Node) (used used' : List Bool) (same : (i : ℕ) → get_or used i false ≡ get_or used' i false) where
   back_same : (k i : ℕ) → back_below nodes used k i ≡ back_below nodes used' k i
@@ -51,7 +39,7 @@ module _ (nodes : List Node) (used used' : List Bool) (same : (i : ℕ) → get_
       ap (λ l. l ++ items_at nodes used k) (below_same k) ∙ ap (λ l. items_below nodes used' k ++ l) (at_same k)
 
   -- what is kept depends on the marks alone
-  pub kept_same : kept_items nodes used ≡ kept_items nodes used'
+  kept_same : kept_items nodes used ≡ kept_items nodes used'
   kept_same = below_same (length nodes)
 
 -- and so are the items that they keep

@@ -1,7 +1,9 @@
 -- Of the nodes that are used, some are remembered from step to step by an item. The held item of a node is kept if it is a since or a once, or the operand
 -- of a previous that is used; its failed item is kept if it is an always. Items are ordered by node number, held before failed.
-use Rattle.std.specs.Prelude.{◌≡◌, ℕ, zero, suc, ◌+◌, ◌*◌, ◌<◌, ◌≤◌, Bool, true, false, cond, ◌&&◌, ◌||◌, ◌⊎◌, List, [], ◌∷◌, ◌++◌, map, length, take, drop, Some, None, Option, ◌==◌, slice_index, slice_index_or}
+use Rattle.std.specs.Prelude.{◌≡◌, ℕ, zero, suc, ◌+◌, ◌*◌, ◌<◌, ◌≤◌, Bool, true, false, cond, ◌&&◌, ◌||◌, ◌⊎◌, List, [], ◌∷◌, ◌++◌, map, length, Some, None, Option, ◌==◌, slice_index, slice_index_or}
 use Rattle.std.specs.List.{ContainsAt as Has}
+use Rattle.bounded.specs.Listed.{listed}
+use Rattle.bounded.specs.declared.Bounded.{Bounded}
 use Rattle.formula.specs.declared.Node.{Node}
 use Rattle.formula.specs.declared.Node.TheVariants.{Label, True, Not, And, Or, Previous, Since, Always, Once}
 use Rattle.formula.specs.declared.Item.{Item}
@@ -84,14 +86,7 @@ pub record Selected (nodes : List Node) (used : List Bool) (items : List Item) :
   pub failed_only : (i : ℕ) → Has items (Failed i) → (i < length nodes) × (slice_index_or used i false ≡ true) × (is_always (slice_index_or nodes i True) ≡ true)
   pub rising : (j k : ℕ) (d : Item) → j < k → k < length items → rank (slice_index_or items j d) < rank (slice_index_or items k d)
 
--- more items after the first len of a table, whose contents before and after are given; or there is no room, and nothing is written
-abbrev pub Appended : List Item → ℕ → List Item → List Item → Option ℕ → Type 0
-Appended more len items items' (Some n) = (n ≡ len + length more) × (take n items' ≡ take len items ++ more) × (drop n items' ≡ drop n items) × (len ≤ length items → n ≤ length items)
-Appended more len items items' None = (length items < len + length more) × (items' ≡ items)
-
--- the kept items stand first in the table, and the rest is as it was; or they do not fit, and the first of them fill it; or there are too many nodes, and it is as it was
-abbrev pub Keeps : List Node → List Bool → List Item → List Item → Option ℕ → Type 0
-Keeps nodes used items items' (Some n) =
-    (length nodes ≤ 128) × (n ≤ length items) × (n ≡ length (kept_items nodes used)) × (take n items' ≡ kept_items nodes used) × (drop n items' ≡ drop n items)
-Keeps nodes used items items' None =
-    ((128 < length nodes) × (items' ≡ items)) ⊎ ((length nodes ≤ 128) × (length items < length (kept_items nodes used)) × (items' ≡ take (length items) (kept_items nodes used)))
+-- the kept items of at most 128 nodes; or there are more nodes, or more items than the list can hold
+abbrev pub Keeps : {most : ℕ} → List Node → List Bool → Option (Bounded Item most) → Type 0
+Keeps nodes used (Some items) = (length nodes ≤ 128) × (listed items ≡ kept_items nodes used)
+Keeps {most} nodes used None = (128 < length nodes) ⊎ ((length nodes ≤ 128) × (most < length (kept_items nodes used)))

@@ -1,9 +1,11 @@
 -- Node words with the same kind and fields, operands merged first, are one node; the nodes are numbered by first appearance.
 -- Merging reads the words from left to right: it keeps the nodes so far, and the number of the node of each word so far.
-use Rattle.std.specs.Prelude.{◌≡◌, ℕ, ◌+◌, ◌<◌, ◌≤◌, Bool, true, ◌&&◌, ◌⊎◌, List, [], ◌∷◌, ◌++◌, length, take, drop, Some, None, Option, ◌==◌, slice_index, slice_index_or}
+use Rattle.std.specs.Prelude.{◌≡◌, ℕ, ◌<◌, ◌≤◌, Bool, true, ◌&&◌, List, [], ◌∷◌, ◌++◌, length, Some, None, Option, ◌==◌, slice_index, slice_index_or}
+use Rattle.bounded.specs.Listed.{listed}
 use Rattle.register.specs.Keys.{enter, place_of, Kept}
 use Rattle.formula.specs.declared.Node.{Node}
 use Rattle.formula.specs.declared.Node.TheVariants.{Label, True, Not, And, Or, Previous, Since, Always, Once}
+use Rattle.formula.specs.declared.join.Merged.{Merged}
 use Rattle.formula.specs.Formulas.{truth, formulas, earlier}
 
 -- what kind a node is, and its fields
@@ -55,22 +57,22 @@ renumbered ks (Since a b) = Since (slice_index ks a) (slice_index ks b)
 renumbered ks (Always a) = Always (slice_index ks a)
 renumbered ks (Once a) = Once (slice_index ks a)
 
-pub record Merged : Type 0 where
+pub record SoFar : Type 0 where
   pub held : List Node
   pub numbers : List ℕ
 
 -- one word more
-abbrev pub merge_one : Merged → Node → Merged
+abbrev pub merge_one : SoFar → Node → SoFar
 merge_one m w = record {
   held = enter same_node (renumbered m.numbers w) m.held;
   numbers = m.numbers ++ (place_of same_node (renumbered m.numbers w) m.held ∷ []);
 }
 
-abbrev pub merge_from : Merged → List Node → Merged
+abbrev pub merge_from : SoFar → List Node → SoFar
 merge_from m [] = m
 merge_from m (w ∷ ws) = merge_from (merge_one m w) ws
 
-abbrev pub merge_all : List Node → Merged
+abbrev pub merge_all : List Node → SoFar
 merge_all ws = merge_from (record { held = []; numbers = [] }) ws
 
 -- the different nodes
@@ -89,36 +91,7 @@ pub record Faithful (ws : List Node) : Type 0 where
   pub all_numbered : length (numbers_of ws) ≡ length ws
   pub in_range : (i : ℕ) → i < length ws → slice_index (numbers_of ws) i < length (nodes_of ws)
 
--- merging in two tables, whose contents before and after are given: the nodes and the numbers stand first in them, and the rest is as it was
-pub record Written (ws nodes nodes' : List Node) (numbers numbers' : List ℕ) (n : ℕ) : Type 0 where
-  pub few : length ws ≤ 128
-  pub numbers_fit : length ws ≤ length numbers
-  pub nodes_fit : n ≤ length nodes
-  pub count : n ≡ length (nodes_of ws)
-  pub nodes_are : take n nodes' ≡ nodes_of ws
-  pub nodes_rest : drop n nodes' ≡ drop n nodes
-  pub numbers_are : take (length ws) numbers' ≡ numbers_of ws
-  pub numbers_rest : drop (length ws) numbers' ≡ drop (length ws) numbers
-
--- the nodes do not fit: the first of them fill their table, and the words before the first whose node found no room have their numbers
-pub record Overfull (ws nodes nodes' : List Node) (numbers numbers' : List ℕ) : Type 0 where
-  pub few : length ws ≤ 128
-  pub numbers_fit : length ws ≤ length numbers
-  pub over : length nodes < length (nodes_of ws)
-  pub filled : nodes' ≡ take (length nodes) (nodes_of ws)
-  pub word : ℕ
-  pub word_in : word < length ws
-  pub full_before : length (nodes_of (take word ws)) ≡ length nodes
-  pub over_after : length nodes < length (nodes_of (take (word + 1) ws))
-  pub numbers_are : take word numbers' ≡ numbers_of (take word ws)
-  pub numbers_rest : drop word numbers' ≡ drop word numbers
-
--- too many words, or too short a table for their numbers: nothing is written
-pub record Unread (ws nodes nodes' : List Node) (numbers numbers' : List ℕ) : Type 0 where
-  pub why : (128 < length ws) ⊎ (length numbers < length ws)
-  pub nodes_same : nodes' ≡ nodes
-  pub numbers_same : numbers' ≡ numbers
-
-abbrev pub Merges : List Node → List Node → List Node → List ℕ → List ℕ → Option ℕ → Type 0
-Merges ws nodes nodes' numbers numbers' (Some n) = Written ws nodes nodes' numbers numbers' n
-Merges ws nodes nodes' numbers numbers' None = Unread ws nodes nodes' numbers numbers' ⊎ Overfull ws nodes nodes' numbers numbers'
+-- the answer to merging: both lists, or there are too many words
+abbrev pub Merges : List Node → Option Merged → Type 0
+Merges ws (Some m) = (length ws ≤ 128) × (listed m.nodes ≡ nodes_of ws) × (listed m.numbers ≡ numbers_of ws)
+Merges ws None = 128 < length ws

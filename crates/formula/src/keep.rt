@@ -1,78 +1,67 @@
-ghost use Rattle.std.specs.Prelude.{◌≡◌, ℕ, ◌<◌, false, ◌&&◌, ◌||◌, [], ◌∷◌, length, if◌then◌else◌, slice_index_or};
-ghost use Rattle.formula.specs.Items.{lasting, is_always, looks_back, back_below, kept_items, Appended, Keeps, Selected};
+ghost use Rattle.std.specs.Prelude.{◌≡◌, ℕ, ◌<◌, false, ◌||◌, length, slice_index_or};
+ghost use Rattle.formula.specs.Items.{lasting, is_always, looks_back, back_below, kept_items, Keeps, Selected};
 
-use super::reach::{is_marked, mark};
-use super::{Item, Node};
+use super::reach::mark;
+use super::{Item, NODES, Node};
+use bounded::Bounded;
 
-// Whether the held item of a node is kept.
-fn keeps_held(node: Node, used: bool, back: bool) -> bool
-    ensures { result ≡ (used && (lasting node || back)) }
+// Whether the held item of a used node is kept.
+fn keeps_held(node: Node, back: bool) -> bool
+    ensures { result ≡ (lasting node || back) }
 {
-    used && (back || matches!(node, Node::Since(_, _) | Node::Once(_)))
+    back || matches!(node, Node::Since(_, _) | Node::Once(_))
 }
 
 // Whether its failed item is.
-fn keeps_failed(node: Node, used: bool) -> bool
-    ensures { result ≡ (used && is_always node) }
+fn keeps_failed(node: Node) -> bool
+    ensures { result ≡ is_always node }
 {
-    used && matches!(node, Node::Always(_))
+    matches!(node, Node::Always(_))
 }
 
-// A previous that is used marks its operand.
-fn look_back(back: &mut [bool], node: Node, used: bool)
-    ensures { (k : ℕ) → k < length back.old → slice_index_or back.new k false ≡ (slice_index_or back.old k false || (used && looks_back k node)) }
+// A previous marks its operand.
+fn look_back(back: &mut [bool], node: Node)
+    ensures { (k : ℕ) → k < length back.old → slice_index_or back.new k false ≡ (slice_index_or back.old k false || looks_back k node) }
 {
     if let Node::Previous(a) = node {
-        if used {
-            mark(back, a.into());
-        }
+        mark(back, a.into());
     }
 }
 
-// For each number, whether a previous that is used has the node of that number as its operand.
-fn looked_back(nodes: &[Node], marks: &[bool]) -> [bool; 128]
+// For each number, whether a previous that is used has the node of that number as its operand. Like the marks it is a table by number beside
+// the nodes: those are lent, and one list of all three would copy them.
+fn looked_back(nodes: &[Node], marks: &[bool]) -> [bool; NODES]
     ensures { (k : ℕ) → k < 128 → slice_index_or result k false ≡ back_below nodes.now marks.now (length nodes.now) k }
 {
-    let mut back = [false; 128];
-    for (i, node) in nodes.iter().enumerate() {
-        look_back(&mut back, *node, is_marked(marks, i));
+    let mut back = [false; NODES];
+    for (node, marked) in nodes.iter().zip(marks) {
+        if *marked {
+            look_back(&mut back, *node);
+        }
     }
     back
 }
 
-// Puts an item at place `len`, if it is wanted, and says where the next goes.
-// The table is lent: a struct of it and `len` needs a lifetime and a clause that it stays the same table, and is no plainer.
-fn put(items: &mut [Item], len: usize, wanted: bool, item: Item) -> Option<usize>
-    ensures { Appended (if wanted then item ∷ [] else []) len items.old items.new result }
-{
-    if !wanted {
-        return Some(len);
-    }
-    if len >= items.len() {
-        return None;
-    }
-    items[len] = item;
-    Some(len + 1)
-}
-
-// The items that are kept of the marked nodes, in order, and how many there are.
-// There is no answer for more than 128 nodes, or where the table does not hold them: then it holds the first of them.
+// The items that are kept of the marked nodes, in order. There is no answer for more than `NODES` nodes, or where more than `MOST` items are kept.
 #[tactic(auto, using(crate::proofs::Chosen::selected))]
-pub fn keep_items(nodes: &[Node], marks: &[bool], items: &mut [Item]) -> Option<usize>
-    ensures answer { Keeps nodes.now marks.now items.old items.new result }
+pub fn keep_items<const MOST: usize>(nodes: &[Node], marks: &[bool]) -> Option<Bounded<Item, MOST>>
+    ensures answer { Keeps nodes.now marks.now result }
     ensures selected { Selected nodes.now marks.now (kept_items nodes.now marks.now) }
 {
-    if nodes.len() > 128 {
+    if nodes.len() > NODES {
         return None;
     }
-    let back = looked_back(nodes, marks);
-    let mut len = 0;
-    for (i, node) in nodes.iter().enumerate() {
-        let used = is_marked(marks, i);
-        let held = keeps_held(*node, used, back[i]);
-        let failed = keeps_failed(*node, used);
-        len = put(items, len, held, Item::Held(i as u8))?;
-        len = put(items, len, failed, Item::Failed(i as u8))?;
+    let looked = looked_back(nodes, marks);
+    let mut items = Bounded::new();
+    for (i, ((node, marked), back)) in nodes.iter().zip(marks).zip(&looked).enumerate() {
+        if *marked {
+            if keeps_held(*node, *back) {
+                items.push(Item::Held(i as u8)).ok()?;
+            }
+            if keeps_failed(*node) {
+                items.push(Item::Failed(i as u8)).ok()?;
+            }
+        }
     }
-    Some(len)
+    Some(items)
 }

@@ -7,10 +7,15 @@ mod join;
 mod keep;
 mod keys;
 mod reach;
+mod table;
 
-pub use join::merge;
+pub use join::{Merged, merge};
 pub use keep::keep_items;
-pub use reach::{is_marked, mark, mark_resting};
+pub use reach::{mark, mark_resting};
+pub use table::at;
+
+// How many nodes are numbered. A slice of any length is answered, a longer one by `None`: a bounded list in its place would ask more of callers.
+pub const NODES: usize = 128;
 
 // A wish as a node: operands are the numbers of earlier nodes. `Since(a, b)` is "a since b".
 #[derive(Clone, Copy, Debug, PartialEq, Eq, Default)]

@@ -1,15 +1,9 @@
 ghost use Rattle.formula.specs.Formulas.{earlier};
 ghost use Rattle.formula.specs.Resting.{operands, all_marked, spread, Exact, Rested};
-ghost use Rattle.std.specs.Prelude.{◌≡◌, true, false, length, slice_index_or, slice_set};
+ghost use Rattle.std.specs.Prelude.{◌≡◌, true, length, slice_set};
 
-use super::Node;
-
-// Whether a place is marked. None is past the end.
-pub fn is_marked(marks: &[bool], place: usize) -> bool
-    ensures { result ≡ slice_index_or marks.now place false }
-{
-    marks.get(place).copied().unwrap_or(false)
-}
+use super::table::at;
+use super::{NODES, Node};
 
 // Marks a place, unless it is past the end. The contract of `get_mut` does not say what the table becomes.
 pub fn mark(marks: &mut [bool], place: usize)
@@ -44,27 +38,27 @@ fn mark_all(marks: &mut [bool], places: &[u8])
     }
 }
 
-// From the highest node down: where one is marked, so are its operands.
+// From the highest node down: where one is marked, so are its operands. The marks change on the way, so each is read by its number.
 fn mark_below(marks: &mut [bool], nodes: &[Node])
     ensures { marks.new ≡ spread nodes.now (length nodes.now) marks.old }
 {
     for (i, node) in nodes.iter().enumerate().rev() {
-        if is_marked(marks, i) {
+        if at(marks, i, false) {
             mark_operands(marks, *node);
         }
     }
 }
 
-// For each node, whether some root rests on it; the places past the last node are not marked. There is no answer for more than 128 nodes.
+// For each node, whether some root rests on it; the places past the last node are not marked. There is no answer for more than `NODES` nodes.
 #[tactic(auto, using(crate::proofs::Marks::exact))]
-pub fn mark_resting(nodes: &[Node], roots: &[u8]) -> Option<[bool; 128]>
+pub fn mark_resting(nodes: &[Node], roots: &[u8]) -> Option<[bool; NODES]>
     ensures marked { Rested nodes.now roots.now result }
     ensures exact { earlier nodes.now ≡ true → Exact nodes.now roots.now }
 {
-    if nodes.len() > 128 {
+    if nodes.len() > NODES {
         return None;
     }
-    let mut marks = [false; 128];
+    let mut marks = [false; NODES];
     let used = &mut marks[..nodes.len()];
     mark_all(used, roots);
     mark_below(used, nodes);

@@ -12,7 +12,7 @@ use wishbook::WishBook;
 pub(crate) fn at(table: &[bool], node: u8) -> bool
     ensures { result ≡ slice_index_or table.now node false }
 {
-    formula::is_marked(table, node.into())
+    formula::at(table, node.into(), false)
 }
 
 // The truth of the next node, after the nodes before it.

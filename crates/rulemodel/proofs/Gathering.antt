@@ -7,7 +7,7 @@ use Rattle.std.specs.List.{position_or_len}
 use Rattle.std.proofs.lemmas.List.Sums.{sum_by-cons}
 use Rattle.model.specs.declared.Outcome.{Outcome}
 use Rattle.model.specs.Models.{total as weights}
-use Rattle.register.specs.Keys.{Decides, Kept, place_of, enter, enter_all}
+use Rattle.register.specs.Keys.{number_decides, Kept, place_of, enter, enter_all}
 use Rattle.register.proofs.Order.{enter_all_kept}
 use Rattle.words.specs.Tests.{all}
 use Rattle.rulelayout.specs.declared.Effect.{Effect}
@@ -44,11 +44,8 @@ targets_onto s os (e ∷ es) =
     targets_onto s (added os (landing s e) e.weight) es
     ∙ ap (λ (ks : List ℕ). enter_all eqb ks (map (landing s) es)) (targets_added os (landing s e) e.weight)
 
-eqb_decides : Decides eqb
-eqb_decides = record { only = eqb-true; self = λ x. eq-eqb x x refl }
-
 pub targets_kept : (s : ℕ) (es : List Effect) → Kept (map (landing s) es) (targets_of (landings s es))
-targets_kept s es = subst (Kept (map (landing s) es)) (sym (targets_onto s [] es)) (enter_all_kept eqb eqb_decides (map (landing s) es))
+targets_kept s es = subst (Kept (map (landing s) es)) (sym (targets_onto s [] es)) (enter_all_kept eqb number_decides (map (landing s) es))
 
 -- weights
 

@@ -1,5 +1,6 @@
 -- What one word adds to what was gathered, and that this is a step of the wish book's format.
 use Rattle.std.proofs.Common.{◌≡◌, ℕ, ◌≤◌, Bool, true, false, eqb, ltb, List, [], ◌∷◌, ◌++◌, length, Ok, Err, Result, sym, refl, ap, ◌∙◌, subst, arith, rules}
+use Rattle.std.proofs.lemmas.List.{take_all}
 use Rattle.bounded.specs.Listed.{listed}
 use Rattle.formula.specs.declared.Node.{Node}
 use Rattle.refusal.specs.declared.Refusal.{Refusal}
@@ -46,11 +47,11 @@ pushed_wishing : (ns : List Node) (ws : List Wish) (x : Wish) → draft_with ns 
 pushed_wishing ns [] x = refl
 pushed_wishing ns (w ∷ ws) x = refl
 
-pub some_wishing : (ns : List Node) (ws : List Wish) → (length ws ≡ 0 → ⊥) → draft_with ns ws ≡ wishing ns ws
+some_wishing : (ns : List Node) (ws : List Wish) → (length ws ≡ 0 → ⊥) → draft_with ns ws ≡ wishing ns ws
 some_wishing ns [] some = absurd (some refl)
 some_wishing ns (w ∷ ws) some = refl
 
-pub none_noding : (ns : List Node) (ws : List Wish) → length ws ≡ 0 → draft_with ns ws ≡ noding ns
+none_noding : (ns : List Node) (ws : List Wish) → length ws ≡ 0 → draft_with ns ws ≡ noding ns
 none_noding ns [] e = refl
 none_noding ns (w ∷ ws) e = absurd (omega arith)
 
@@ -112,12 +113,8 @@ next_word_is ns ws w isnt = search rules
 abbrev Wishing : List Node → List Wish → ℕ → Type 0
 Wishing ns ws w = read_word (draft_with ns ws) w ≡ check (ltb (length ws) 16) WrongKind (read_wish ns ws w)
 
-empty : {X : Type 0} (xs : List X) → length xs ≡ 0 → xs ≡ []
-empty [] e = refl
-empty (x ∷ xs) e = absurd (omega arith)
-
 pub first_wish : (ns : List Node) (ws : List Wish) (w : ℕ) → length ws ≡ 0 → eqb (kind w) 10 ≡ true → (length ns ≡ 0 → ⊥) → Wishing ns ws w
-first_wish ns ws w z is some = subst (λ ws. Wishing ns ws w) (sym (empty ws z)) (first_word_is ns w some is)
+first_wish ns ws w z is some = subst (λ ws. Wishing ns ws w) (take_all 0 ws (omega arith)) (first_word_is ns w some is)
 
 pub next_wish : (ns : List Node) (ws : List Wish) (w : ℕ) → (length ws ≡ 0 → ⊥) → eqb (kind w) 15 ≡ false → Wishing ns ws w
 next_wish ns ws w some isnt = ap (λ d. read_word d w) (some_wishing ns ws some) ∙ next_word_is ns ws w isnt

@@ -1,15 +1,13 @@
 -- From what was gathered to the book: the items, that the book is what its words come to, and what the reader answers.
-use Rattle.std.proofs.Common.{◌≡◌, ℕ, ◌<◌, ◌≤◌, true, cond, ltb, leb, List, [], ◌∷◌, map, length, get_or, take, Some, None, Ok, Err, Option, Result, sym, refl, ap, ◌∙◌, subst, inl, inr, arith, rules}
+use Rattle.std.proofs.Common.{◌≡◌, ℕ, ◌<◌, true, cond, ltb, leb, List, [], ◌∷◌, map, length, get_or, Some, Ok, Err, Option, Result, sym, refl, ap, ◌∙◌, subst, arith, rules}
 use Rattle.formula.specs.declared.Node.{Node}
+use Rattle.formula.specs.declared.join.Merged.{Merged}
 use Rattle.formula.specs.Formulas.{earlier}
 use Rattle.formula.specs.Items.{kept_items}
-use Rattle.formula.specs.Merging.{nodes_of, numbers_of, Written, Merges, Faithful}
+use Rattle.formula.specs.Merging.{nodes_of, numbers_of, Merges, Faithful}
 use Rattle.formula.specs.Resting.{resting}
 use Rattle.formula.proofs.Faithful.{faithful}
-use Rattle.formula.proofs.Tables.{nodes_of-length}
 use Rattle.std.proofs.lemmas.Bool.{and_parts, and_from, ltb-true, lt-ltb, le-leb, lt-leb}
-use Rattle.std.specs.Option.{IsSome}
-use Rattle.std.proofs.lemmas.List.{take_all, length-take}
 use Rattle.refusal.specs.declared.Refusal.TheVariants.{WrongKind, TooManyItems}
 use Rattle.words.specs.Drafts.{Finished}
 use Rattle.words.specs.Tests.{all}
@@ -26,17 +24,12 @@ use Rattle.wishbook.specs.Gathering.{draft_of}
 use Rattle.wishbook.specs.Book.{renamed, book_of, sound, items_over, meant, SameWishes}
 use Rattle.wishbook.specs.Contents.{contents}
 
--- merging at most 128 words into tables of 128 places always goes
-pub always_merges : {nodes nodes' : List Node} {numbers numbers' : List ℕ} (ns : List Node) → length ns ≤ 128 → length nodes ≡ 128 → length numbers ≡ 128 → Merges ns nodes nodes' numbers numbers' None → ⊥
-always_merges ns few a b (inl u) = elim u.why [ inl h ↦ omega arith | inr h ↦ omega arith ]
-always_merges ns few a b (inr o) = omega (arith, o.over, nodes_of-length ns)
-
 renamed_roots : (numbers : List ℕ) (ws : List Wish) → map (λ w. w.node) (map (renamed numbers) ws) ≡ map (λ r. get_or numbers r 0) (map (λ w. w.node) ws)
 renamed_roots numbers [] = refl
 renamed_roots numbers (w ∷ ws) = ap (λ l. get_or numbers w.node 0 ∷ l) (renamed_roots numbers ws)
 
 -- the items over the different nodes are those of the words
-pub items_same : (ns : List Node) (ws : List Wish) → items_over (nodes_of ns) (map (renamed (numbers_of ns)) ws) ≡ items_for ns ws
+items_same : (ns : List Node) (ws : List Wish) → items_over (nodes_of ns) (map (renamed (numbers_of ns)) ws) ≡ items_for ns ws
 items_same ns ws = ap (λ roots. kept_items (nodes_of ns) (resting (nodes_of ns) roots)) (renamed_roots (numbers_of ns) ws)
 
 renamed_good : (ns : List Node) (ws : List Wish) → Faithful ns → all (good_wish (length ns)) ws ≡ true → all (good_wish (length (nodes_of ns))) (map (renamed (numbers_of ns)) ws) ≡ true
@@ -49,7 +42,7 @@ renamed_good ns (w ∷ ws) f each =
     (renamed_good ns ws f parts.1)
 
 -- the book's operands number earlier nodes, and its wishes name nodes
-pub whole_sound : (ns : List Node) (ws : List Wish) → earlier ns ≡ true → all (good_wish (length ns)) ws ≡ true → sound (nodes_of ns) (map (renamed (numbers_of ns)) ws) ≡ true
+whole_sound : (ns : List Node) (ws : List Wish) → earlier ns ≡ true → all (good_wish (length ns)) ws ≡ true → sound (nodes_of ns) (map (renamed (numbers_of ns)) ws) ≡ true
 whole_sound ns ws e each =
     let f = faithful ns e in
     and_from (earlier (nodes_of ns)) (all (good_wish (length (nodes_of ns))) (map (renamed (numbers_of ns)) ws)) f.still_earlier (renamed_good ns ws f each)
@@ -71,7 +64,13 @@ abbrev pub Means : WishBook → Wishes → Type 0
 Means book text = contents book ≡ book_of text
 
 module _ (g : Gathered) where
-  -- its nodes and wishes
+  -- its nodes and wishes, from the answer of merging
+  pub parts : (ns : List Node) (ks : List ℕ) (r : Option Merged) (m : Merged) (wishes : List Wish) → ns ≡ listed g.nodes → Merges ns r → r ≡ Some m → ks ≡ listed m.numbers → wishes ≡ map (renamed ks) (listed g.wishes)
+      → (listed m.nodes ≡ nodes_of (listed g.nodes)) × (wishes ≡ map (renamed (numbers_of (listed g.nodes))) (listed g.wishes))
+  parts ns ks r m wishes read told is numbers all =
+      let merged = subst (Merges ns) is told in
+      (merged.1 ∙ ap nodes_of read, all ∙ ap (λ l. map (renamed l) (listed g.wishes)) (numbers ∙ merged.2 ∙ ap numbers_of read))
+
   pub book_sound : (nodes : List Node) (wishes : List Wish) → nodes ≡ nodes_of (listed g.nodes) → wishes ≡ map (renamed (numbers_of (listed g.nodes))) (listed g.wishes) → sound nodes wishes ≡ true
   book_sound nodes wishes e f = (λ i. sound (e i) (f i)) ∙ whole_sound (listed g.nodes) (listed g.wishes) g.good.0.0 g.good.1.0
 
@@ -103,18 +102,3 @@ module _ (g : Gathered) where
       (subst (λ t. Finished Means (cond t (Ok (record { nodes = listed g.nodes; wishes = listed g.wishes })) (Err TooManyItems)) (Ok b))
       (sym (le-leb (length (items_for (listed g.nodes) (listed g.wishes))) 16 (omega (arith, ap length items, few b.items))))
       (λ i. record { nodes = en i; wishes = ew i; items = items i }))
-
--- what merging leaves in its tables
-pub merged_some : (ns nodes nodes' : List Node) (numbers numbers' : List ℕ) (r : Option ℕ) → length ns ≤ 128 → length nodes ≡ 128 → length numbers ≡ 128 → Merges ns nodes nodes' numbers numbers' r → IsSome r
-merged_some ns nodes nodes' numbers numbers' (Some n) few a b m = refl
-merged_some ns nodes nodes' numbers numbers' None few a b m = absurd (always_merges ns few a b m)
-
-module _ (ns nodes nodes' : List Node) (numbers numbers' : List ℕ) (r : Option ℕ) (n : ℕ) (few : length ns ≤ 128) (m : Merges ns nodes nodes' numbers numbers' r) (is : r ≡ Some n) where
-  tables : Written ns nodes nodes' numbers numbers' n
-  tables = subst (Merges ns nodes nodes' numbers numbers') is m
-
-  pub merged_nodes : take 128 (take n nodes') ≡ nodes_of ns
-  merged_nodes = ap (take 128) tables.nodes_are ∙ take_all 128 (nodes_of ns) (omega (arith, nodes_of-length ns))
-
-  pub merged_numbers : take 128 (take (length ns) numbers') ≡ numbers_of ns
-  merged_numbers = take_all 128 (take (length ns) numbers') (omega (arith, length-take (length ns) numbers')) ∙ tables.numbers_are

@@ -14,6 +14,7 @@ use wishlayout::Wish;
 use words::read;
 
 // The wish book in a file's bytes, or the first refusal and the place of its word.
+#[tactic(auto, using(crate::proofs::Whole::same_wishes, wishlayout::proofs::Way::wish_faithful))]
 pub fn read_wish(bytes: &[u8]) -> Result<WishBook, Fault>
     ensures reads { Reads bytes.now result }
     ensures faithful { Faithful wish_format (λ b. valid b ≡ true) wish_words }

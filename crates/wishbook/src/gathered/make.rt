@@ -1,36 +1,21 @@
-// The parts of a book: its different nodes, its wishes by their numbers, and its memory items.
+// The parts of a book: its wishes by the numbers of their nodes, and its memory items.
 ghost use Rattle.bounded.specs.Listed.{listed};
 ghost use Rattle.std.specs.Prelude.{◌≡◌, map};
-ghost use Rattle.formula.specs.Merging.{nodes_of, numbers_of};
 ghost use Rattle.wishbook.specs.Book.{renamed, items_over};
 ghost use Rattle.wishbook.specs.Contents.{Remembered};
 
 use bounded::Bounded;
-use formula::{Item, Node, keep_items, mark_resting, merge};
+use formula::{Item, Node, at, keep_items, mark_resting};
 use wishlayout::Wish;
 
-// The different nodes, and the number of each word's node.
-pub(super) fn merged(words: &Bounded<Node, 128>) -> (Bounded<Node, 128>, Bounded<u8, 128>)
-    ensures nodes { listed result.0 ≡ nodes_of (listed words.now) }
-    ensures numbers { listed result.1 ≡ numbers_of (listed words.now) }
-{
-    let mut nodes = [Node::default(); 128];
-    let mut numbers = [0; 128];
-    let count = merge(words, &mut nodes, &mut numbers).unwrap();
-    (
-        Bounded::from_slice(&nodes[..count]),
-        Bounded::from_slice(&numbers[..words.len()]),
-    )
-}
-
-// The wishes, each by the number of its node. A bounded list is filled by `push`: nothing collects into one.
+// The wishes, each by the number of its node. Here and in `roots` a loop fills the list by `push`: nothing collects into a bounded list.
 pub(super) fn rename_all(wishes: &Bounded<Wish, 16>, numbers: &[u8]) -> Bounded<Wish, 16>
     ensures { listed result ≡ map (renamed numbers.now) (listed wishes.now) }
 {
     let mut all = Bounded::new();
     for wish in wishes.as_slice() {
         let _ = all.push(Wish {
-            node: numbers.get(wish.node as usize).copied().unwrap_or(0),
+            node: at(numbers, wish.node as usize, 0),
             raised: wish.raised,
         });
     }
@@ -49,6 +34,7 @@ fn roots(wishes: &Bounded<Wish, 16>) -> Bounded<u8, 16>
 }
 
 // The memory items of the wishes, unless they are more than 16.
+#[tactic(auto, using(formula::proofs::Padded::kept_rested))]
 pub(super) fn remember(
     nodes: &Bounded<Node, 128>,
     wishes: &Bounded<Wish, 16>,
@@ -56,7 +42,5 @@ pub(super) fn remember(
     ensures { Remembered (items_over (listed nodes.now) (listed wishes.now)) result }
 {
     let marks = mark_resting(nodes, &roots(wishes))?;
-    let mut items = [Item::default(); 16];
-    let count = keep_items(nodes, &marks[..nodes.len()], &mut items)?;
-    Some(Bounded::from_slice(&items[..count]))
+    keep_items(nodes, &marks)
 }

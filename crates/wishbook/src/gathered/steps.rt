@@ -1,43 +1,35 @@
 // Gathering follows the draft of the wish book's format.
 ghost use Rattle.bounded.specs.Listed.{listed};
-ghost use Rattle.std.specs.Prelude.{◌≡◌};
+ghost use Rattle.refusal.specs.declared.Refusal.{Refusal};
+ghost use Rattle.std.specs.Prelude.{◌≡◌, Result};
 ghost use Rattle.wishbook.specs.Book.{book_of};
 ghost use Rattle.wishbook.specs.Contents.{contents};
 ghost use Rattle.wishbook.specs.Gathering.{draft_of};
-ghost use Rattle.wishbook.specs.Steps.{NodeAdded, WishAdded};
+ghost use Rattle.wishbook.specs.Steps.{Added};
 ghost use Rattle.wishlayout.specs.Layout.{Draft as Drafted, wish_format};
 ghost use Rattle.wishlayout.specs.Wishes.{Wishes};
 
 use super::Gathered;
-use super::make::{merged, remember, rename_all};
+use super::make::{remember, rename_all};
 use crate::book::WishBook;
 use bounded::Bounded;
-use formula::Node;
+use formula::merge;
 use refusal::Refusal;
-use wishlayout::{END, WISH, Wish, read_node, read_wish_word};
+use wishlayout::{END, WISH, read_node, read_wish_word};
 use words::{Draft, Turn};
 
-// One node word more.
-fn add_node(nodes: &mut Bounded<Node, 128>, word: u32) -> Result<Turn, Refusal>
-    ensures { NodeAdded (listed nodes.old) word (listed nodes.new) result }
+// One item more, unless the list is full: that is tested before the word is read.
+fn add<T: Copy, const MOST: usize, F: FnOnce() -> Result<T, Refusal>>(
+    all: &mut Bounded<T, MOST>,
+    read: F,
+) -> Result<Turn, Refusal>
+    requires { F.pre read }
+    ensures { (said : Result T Refusal) → ((r : Result T Refusal) → F.post read r → r ≡ said) → Added MOST (listed all.old) said (listed all.new) result }
 {
-    if nodes.len() >= 128 {
+    if all.len() >= MOST {
         return Err(Refusal::WrongKind);
     }
-    let node = read_node(word, nodes.len() as u32)?;
-    let _ = nodes.push(node);
-    Ok(Turn::More)
-}
-
-// One wish more, after `count` node words.
-fn add_wish(wishes: &mut Bounded<Wish, 16>, count: u32, word: u32) -> Result<Turn, Refusal>
-    ensures { WishAdded count (listed wishes.old) word (listed wishes.new) result }
-{
-    if wishes.len() >= 16 {
-        return Err(Refusal::WrongKind);
-    }
-    let wish = read_wish_word(word, count)?;
-    let _ = wishes.push(wish);
+    let _ = all.push(read()?);
     Ok(Turn::More)
 }
 
@@ -61,13 +53,14 @@ impl Draft for Gathered {
         }
     }
 
+    // A draft is a state machine: which words may come depends on what has come, and so the tests stand in this order.
     fn step(&mut self, word: u32) -> Result<Turn, Refusal> {
         let kind = word >> 28;
         let before = &*self;
         let (count, wished) = (before.nodes.len(), before.wishes.len());
         if wished == 0 {
             if kind != WISH {
-                return add_node(&mut self.nodes, word);
+                return add(&mut self.nodes, || read_node(word, count as u32));
             }
             if count == 0 {
                 return Err(Refusal::WrongKind);
@@ -75,7 +68,7 @@ impl Draft for Gathered {
         } else if kind == END {
             return Ok(Turn::End);
         }
-        add_wish(&mut self.wishes, count as u32, word)
+        add(&mut self.wishes, || read_wish_word(word, count as u32))
     }
 
     // Equal nodes are merged, and the items that are kept are found. A book has a wish.
@@ -83,11 +76,11 @@ impl Draft for Gathered {
         if self.wishes.is_empty() {
             return Err(Refusal::WrongKind);
         }
-        let (nodes, numbers) = merged(&self.nodes);
-        let wishes = rename_all(&self.wishes, &numbers);
-        let items = remember(&nodes, &wishes).ok_or(Refusal::TooManyItems)?;
+        let merged = merge(&self.nodes).unwrap();
+        let wishes = rename_all(&self.wishes, &merged.numbers);
+        let items = remember(&merged.nodes, &wishes).ok_or(Refusal::TooManyItems)?;
         Ok(WishBook {
-            nodes,
+            nodes: merged.nodes,
             wishes,
             items,
         })

@@ -1,9 +1,12 @@
--- The register holds the nodes of the words so far, over the same table; their numbers stand first, and the rest of both tables is as it was.
-use Rattle.std.proofs.Common.{◌≡◌}
+-- The register holds the nodes of the words so far, and their numbers are listed.
+use Rattle.std.proofs.Common.{◌≡◌, length}
+use Rattle.bounded.specs.Listed.{listed}
+use Rattle.register.specs.Listed.{listed as held}
 use Rattle.formula.proofs.Tables.{Reached}
 use Rattle.formula.proofs.join.merge.Given as goal
 
-abbrev pub invariant-loop-i : goal.invariant-loop-i
-invariant-loop-i l =
-    Reached l.words l.initial.register.keys.now l.register.keys.now l.register.len l.initial.numbers l.numbers l.i
-    × (l.register.keys.ghost_name ≡ l.initial.register.keys.ghost_name)
+abbrev pub invariant-loop-word : goal.invariant-loop-word
+invariant-loop-word l = record {
+  reached : Reached l.words (held l.register) (listed l.numbers) l.word-index;
+  room : length l.register.keys.now ≡ 128;
+}

@@ -1,11 +1,11 @@
-use Rattle.std.proofs.Common.{◌≡◌, ◌∙◌, map, None, Err, sym, ap, subst, rules}
+use Rattle.std.proofs.Common.{◌≡◌, None, Err, sym, subst, rules}
 use Rattle.bounded.specs.Listed.{listed}
 use Rattle.refusal.specs.declared.Refusal.TheVariants.{TooManyItems}
 use Rattle.words.specs.Drafts.{Finished}
 use Rattle.wishlayout.specs.Layout.{whole_book}
-use Rattle.wishbook.specs.Book.{renamed, items_over}
+use Rattle.wishbook.specs.Book.{items_over}
 use Rattle.wishbook.specs.Contents.{Remembered}
-use Rattle.wishbook.proofs.Whole.{Means, book_sound, unwished, overfull, made}
+use Rattle.wishbook.proofs.Whole.{Means, parts, book_sound, unwished, overfull, made}
 use Rattle.wishbook.proofs.gathered.steps.GatheredDraft.finish.Goals as goal
 
 pub returns-then-is_empty : goal.returns-then-is_empty
@@ -13,17 +13,17 @@ returns-then-is_empty c = λ s f. unwished c.args.self s (search rules) f
 
 pub returns-in_err-items : goal.returns-in_err-items
 returns-in_err-items c = λ s f.
-    let wishes = c.rename_all-wishes.ensures ∙ ap (λ ks. map (renamed ks) (listed c.args.self.wishes)) (c.deref-2.ensures.0 ∙ c.merged.ensures.numbers) in
+    let own = parts c.args.self _ _ _ _ _ c.deref-2.ensures.0 c.merge.ensures.answer c.unwrap-merged.ensures c.deref-3.ensures.0 c.rename_all-wishes.ensures in
     let is : c.from_residual.result ≡ Err TooManyItems = search rules in
-    let many : Remembered (items_over (listed c.merged.result.0) (listed c.rename_all-wishes.result)) None = subst (Remembered (items_over (listed c.merged.result.0) (listed c.rename_all-wishes.result))) c.in_err-items.ensures.ok_part c.remember.ensures in
-    subst (Finished Means (whole_book s)) (sym is) (overfull c.args.self s _ _ (search rules) f c.merged.ensures.nodes wishes many)
+    let many : Remembered (items_over (listed c.unwrap-merged.result.nodes) (listed c.rename_all-wishes.result)) None = subst (Remembered (items_over (listed c.unwrap-merged.result.nodes) (listed c.rename_all-wishes.result))) c.in_err-items.ensures.ok_part c.remember.ensures in
+    subst (Finished Means (whole_book s)) (sym is) (overfull c.args.self s _ _ (search rules) f own.0 own.1 many)
 
 pub invariant_of-result : goal.invariant_of-result
 invariant_of-result c =
-    record {
-      sound = book_sound c.args.self _ _ c.merged.ensures.nodes (c.rename_all-wishes.ensures ∙ ap (λ ks. map (renamed ks) (listed c.args.self.wishes)) (c.deref-2.ensures.0 ∙ c.merged.ensures.numbers));
-      remembers = search rules;
-    }
+    let own = parts c.args.self _ _ _ _ _ c.deref-2.ensures.0 c.merge.ensures.answer c.unwrap-merged.ensures c.deref-3.ensures.0 c.rename_all-wishes.ensures in
+    record { sound = book_sound c.args.self _ _ own.0 own.1; remembers = search rules }
 
 pub returns : goal.returns
-returns c = λ s f. made c.args.self s _ (search rules) f c.merged.ensures.nodes (c.rename_all-wishes.ensures ∙ ap (λ ks. map (renamed ks) (listed c.args.self.wishes)) (c.deref-2.ensures.0 ∙ c.merged.ensures.numbers))
+returns c = λ s f.
+    let own = parts c.args.self _ _ _ _ _ c.deref-2.ensures.0 c.merge.ensures.answer c.unwrap-merged.ensures c.deref-3.ensures.0 c.rename_all-wishes.ensures in
+    made c.args.self s _ (search rules) f own.0 own.1
