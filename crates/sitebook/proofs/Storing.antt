@@ -1,12 +1,12 @@
 -- The tables follow the draft of the book that is being read, and at the end they hold the book. For others: `Storing`, what
 -- is known of the pass so far, and the `storing_` lemmas, one for each thing that the pass does.
-use Rattle.std.proofs.Common.{◌≡◌, ℕ, zero, suc, ◌+◌, ◌-◌, ◌*◌, ◌%◌, ◌^◌, ◌<◌, ◌≤◌, Bool, true, not, ◌&&◌, eqb, ltb, leb, List, [], ◌∷◌, ◌++◌, length, get_or, set, take, drop, replicate, Some, None, Ok, Err, Result, sym, refl, ap, ◌∙◌, subst, inl, inr, arith, rules}
+use Rattle.std.proofs.Common.{◌≡◌, ℕ, zero, suc, ◌+◌, ◌-◌, ◌*◌, ◌<◌, ◌≤◌, true, not, eqb, ltb, leb, List, [], ◌∷◌, ◌++◌, length, get_or, set, take, drop, replicate, Some, None, Ok, sym, refl, ap, ◌∙◌, subst, inl, inr, arith, rules}
 use Rattle.std.proofs.lemmas.List.{append_assoc, length_push, replicate_more}
 use Rattle.std.proofs.lemmas.Bool.{cases_Bool, leb-true, cond-true, cond-false}
-use Rattle.refusal.specs.declared.Refusal.{Refusal}
-use Rattle.refusal.specs.declared.Refusal.TheVariants.{WrongEnd, WrongTotal, NotRising}
+use Rattle.refusal.specs.declared.Refusal.TheVariants.{WrongTotal, NotRising}
 use Rattle.words.specs.Words.{kind, first_word}
-use Rattle.words.specs.Format.{Step, wrong, more, ends, onto, got, stop, is_nil, closing, ending, run, reading}
+use Rattle.words.specs.Format.{Step, wrong, more, ends, onto, got, run, reading}
+use Rattle.words.proofs.Encoding.{stop_is_no_book, whole_of}
 use Rattle.words.proofs.Reading.{after, run_short, turn}
 use Rattle.words.proofs.Tests.{onto_more, check_more}
 use Rattle.sitelayout.specs.declared.Entry.{Entry}
@@ -158,20 +158,6 @@ pub record Storing (bytes rest : List ℕ) (c : Counts) (h : Held) : Type 0 wher
   pub place : ℕ
   pub left : run site_format draft place rest ≡ got book
 
-stop_is_no_book : {r : Refusal} {p : ℕ} {b : Site} → stop r p ≡ got b → ⊥
-stop_is_no_book e = search rules
-
-closing_whole : (whole : Result Site Refusal) (p : ℕ) (b : Site) → closing whole p ≡ got b → whole ≡ Ok b
-closing_whole (Ok x) p b e = cc
-closing_whole (Err r) p b e = absurd (stop_is_no_book e)
-
-ending_whole : (whole : Result Site Refusal) (p w : ℕ) (last : Bool) (b : Site) → ending whole p w last ≡ got b → whole ≡ Ok b
-ending_whole whole p w last b e =
-    elim (cases_Bool (eqb (w % 2 ^ 28) p && last)) [
-      | inl t ↦ closing_whole whole p b (sym (cond-true _ (closing whole p) (stop WrongEnd p) t) ∙ e)
-      | inr t ↦ absurd (stop_is_no_book (sym (cond-false _ (closing whole p) (stop WrongEnd p) t) ∙ e))
-    ]
-
 module _ (bytes rest : List ℕ) (c : Counts) (h : Held) (s : Storing bytes rest c h) where
   -- the book does not end without an end word
   pub storing_long : length rest < 4 → ⊥
@@ -223,7 +209,7 @@ module _ (bytes rest : List ℕ) (c : Counts) (h : Held) (s : Storing bytes rest
     closes_by (more e) is end = absurd (omega (arith, (stores_step (c.head.states * c.head.actions) h s.draft e w s.good s.kept is).0, end_kind (kind w) end))
     closes_by ends is end =
         closes_table s.draft s.good s.kept
-        (ending_whole (whole_book s.draft) s.place w (is_nil next) s.book (sym (ap (after site_format s.draft s.place w next) is) ∙ here))
+        (whole_of (whole_book s.draft) s.place w next s.book (sym (ap (after site_format s.draft s.place w next) is) ∙ here)).2
 
     pub storing_end : kind_of w ≡ Ok End → Closes
     storing_end end = closes_by (read_word s.draft w) refl end

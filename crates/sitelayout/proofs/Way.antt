@@ -193,11 +193,11 @@ module _ (h : Head) (g : GoodHead h) (ms : List Mark) where
         ),
       )
 
-length-marks : (ms : List Mark) → length (mark_words ms) ≡ 2 * length ms
+pub length-marks : (ms : List Mark) → length (mark_words ms) ≡ 2 * length ms
 length-marks [] = refl
 length-marks (m ∷ ms) = omega (arith, length-marks ms)
 
-length-moves : (ms : List Move) → length (move_words ms) ≡ length ms
+pub length-moves : (ms : List Move) → length (move_words ms) ≡ length ms
 length-moves [] = refl
 length-moves (m ∷ ms) = ap suc (length-moves ms)
 

@@ -40,7 +40,7 @@ word_of_bytes w h =
     let d4 : w / 16777216 % 256 ≡ w / 16777216 = mod-eq_of_lt top in
     omega (arith, ap (λ x. x * 256) e2, ap (λ x. x * 256) e3)
 
-stop_is_no_book : {B : Type 0} {r : Refusal} {p : ℕ} {b : B} → stop r p ≡ got b → ⊥
+pub stop_is_no_book : {B : Type 0} {r : Refusal} {p : ℕ} {b : B} → stop r p ≡ got b → ⊥
 stop_is_no_book e = let z : ◌≡◌ {A = ℕ} 0 1 = cc in omega arith
 
 nil_from : (rest : List ℕ) → is_nil rest ≡ true → rest ≡ []
@@ -51,7 +51,7 @@ closes : {B : Type 0} (whole : Result B Refusal) (p : ℕ) (b : B) → closing w
 closes (Ok x) p b e = cc
 closes (Err r) p b e = absurd (stop_is_no_book e)
 
-whole_of : {B : Type 0} (whole : Result B Refusal) (p w : ℕ) (rest : List ℕ) (b : B) → ending whole p w (is_nil rest) ≡ got b → (w % 2 ^ 28 ≡ p) × (rest ≡ []) × (whole ≡ Ok b)
+pub whole_of : {B : Type 0} (whole : Result B Refusal) (p w : ℕ) (rest : List ℕ) (b : B) → ending whole p w (is_nil rest) ≡ got b → (w % 2 ^ 28 ≡ p) × (rest ≡ []) × (whole ≡ Ok b)
 whole_of {B} whole p w rest b e =
     elim (cases_Bool (eqb (w % 2 ^ 28) p && is_nil rest)) [
       | inl t ↦

@@ -6,6 +6,7 @@ use Rattle.sitelayout.specs.declared.Mark.{Mark}
 use Rattle.sitelayout.specs.declared.Move.{Move}
 use Rattle.sitelayout.specs.Layout.{mark_words, move_words, cell_word, cell_words, site_words}
 use Rattle.sitelayout.specs.OneWord.{word_of_mask, word_of_reward, word_of_entry, word_of_move}
+use Rattle.sitelayout.proofs.Way.{length-marks, length-moves}
 use Rattle.writeout.specs.Book.{mark_of, move_to, cell_of, cells_below, cells_of, book_of}
 
 pub marks-append : (xs ys : List Mark) → mark_words (xs ++ ys) ≡ mark_words xs ++ mark_words ys
@@ -57,17 +58,9 @@ states_more m codes xs c n e =
     ∙ cells-append m.actions 0 (cells_of m codes xs) (cells_below m codes c m.actions)
     ∙ ap (λ k. cell_words m.actions 0 (cells_of m codes xs) ++ cell_words m.actions k (cells_below m codes c m.actions)) at
 
-marks-length : (ms : List Mark) → length (mark_words ms) ≡ 2 * length ms
-marks-length [] = refl
-marks-length (x ∷ ms) = omega (arith, marks-length ms)
-
-moves-length : (ms : List Move) → length (move_words ms) ≡ length ms
-moves-length [] = refl
-moves-length (x ∷ ms) = omega (arith, moves-length ms)
-
 cell-length : (actions k : ℕ) (ms : List Move) → length (cell_word actions k ms) ≤ length ms + 1
 cell-length actions k [] = omega arith
-cell-length actions k (m ∷ ms) = omega (arith, moves-length ms)
+cell-length actions k (m ∷ ms) = omega (arith, length-moves ms)
 
 below_small : (m : Model) → Lawful m → (codes : List ℕ) (c k n : ℕ) → length (cell_words m.actions k (cells_below m codes c n)) ≤ 9 * n
 below_small m law codes c k zero = omega arith
@@ -102,7 +95,7 @@ book_small m law codes few =
     omega (
       arith,
       length-append (mark_words (map (mark_of m) codes)) (cell_words m.actions 0 (cells_of m codes codes)),
-      marks-length (map (mark_of m) codes),
+      length-marks (map (mark_of m) codes),
       length-map codes (mark_of m),
       states_small m law codes codes 0,
     )
