@@ -3,12 +3,12 @@ use refusal::{Fault, Unread};
 use std::alloc::{AllocError, AllocFailed};
 use std::fmt;
 
-#[derive(Debug, Drop)]
+#[derive(Clone, Copy, Debug, PartialEq, Eq)]
 pub enum Failure {
     Unknown,
     Unreadable,
     Refused(Fault),
-    Memory(AllocError),
+    Memory,
 }
 
 impl fmt::Display for Failure {
@@ -19,7 +19,7 @@ impl fmt::Display for Failure {
             Failure::Refused(fault) => {
                 write!(f, "refused {} {}", fault.refusal.number(), fault.place)
             }
-            Failure::Memory(_) => f.write_str("no memory"),
+            Failure::Memory => f.write_str("no memory"),
         }
     }
 }
@@ -34,19 +34,19 @@ impl From<Unread> for Failure {
     fn from(why: Unread) -> Failure {
         match why {
             Unread::Refused(fault) => Failure::Refused(fault),
-            Unread::Memory(error) => Failure::Memory(error),
+            Unread::Memory(_) => Failure::Memory,
         }
     }
 }
 
 impl From<AllocError> for Failure {
-    fn from(error: AllocError) -> Failure {
-        Failure::Memory(error)
+    fn from(_error: AllocError) -> Failure {
+        Failure::Memory
     }
 }
 
 impl<T: Drop> From<AllocFailed<T>> for Failure {
     fn from(_failed: AllocFailed<T>) -> Failure {
-        Failure::Memory(AllocError)
+        Failure::Memory
     }
 }

@@ -39,7 +39,7 @@ impl Ground<'_> {
 // A book that is to be laid, or to be laid on, has to be one; why it is none is not told.
 fn unreadable(failure: Failure) -> Failure {
     match failure {
-        Failure::Memory(_) => failure,
+        Failure::Memory => failure,
         _ => Failure::Unreadable,
     }
 }

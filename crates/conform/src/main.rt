@@ -26,7 +26,6 @@ fn run(rt: &HostRuntime) -> anyhow::Result<()> {
     for line in BufReader::new(heap, rt.stdin())?.lines(heap) {
         match answer(heap, line?.as_str()) {
             Ok(text) => rt.println(text)?,
-            Err(Failure::Memory(error)) => return Err(error.into()),
             Err(failure) => println!(rt; "{failure}")?,
         }
     }

@@ -1,6 +1,8 @@
 -- The number of each refusal, as the books of rules give it. Want of memory is no refusal of the book, and is not among them.
 use Rattle.std.specs.Prelude.{◌≡◌, ℕ, List, codes}
 use Rattle.refusal.specs.declared.Refusal.{Refusal}
+use Rattle.refusal.specs.declared.Unread.{Unread}
+use Rattle.refusal.specs.declared.Unread.TheVariants.{Refused, Memory}
 use Rattle.refusal.specs.declared.Refusal.TheVariants.{CutOff, WrongKind, UnusedBit, OutOfRange, WrongEnd, WrongTotal, NotRising, NoWait, SwitchTwice, TooManyItems, NoSuchLabel, BoundPassed, SpanPassed, TooManyStates, BookTableShort, HorizonTooLong, PlanTableShort, NotOffered, NoSuchOutcome, LastSlot}
 
 abbrev pub number : Refusal → ℕ
@@ -51,3 +53,7 @@ sentence PlanTableShort = codes "a plan table is too short"
 sentence NotOffered = codes "the action is not offered here"
 sentence NoSuchOutcome = codes "the open choice has no outcome of this number"
 sentence LastSlot = codes "slot 12 is the last, and nothing can be chosen in it"
+
+abbrev pub why_unread : Unread → List ℕ
+why_unread (Refused fault) = sentence fault.refusal
+why_unread (Memory error) = codes "there is not enough memory"

@@ -4,7 +4,7 @@
 
 ghost use Rattle.std.specs.Prelude.{◌≡◌};
 ghost use Rattle.refusal.specs.declared.Unread.TheVariants as unread;
-ghost use Rattle.refusal.specs.Numbers.{number as number_of, Apart, sentence as sentence_of};
+ghost use Rattle.refusal.specs.Numbers.{number as number_of, Apart, sentence as sentence_of, why_unread};
 
 use std::alloc::AllocError;
 use std::error::Error;
@@ -42,7 +42,7 @@ pub struct Fault {
 }
 
 // Why a book is not read: its file is refused, or there is not enough memory for it.
-#[derive(Debug, Drop)]
+#[derive(Clone, Copy, Debug, PartialEq, Eq)]
 pub enum Unread {
     Refused(Fault),
     Memory(AllocError),
@@ -96,6 +96,18 @@ impl Refusal {
     }
 }
 
+impl Unread {
+    // What to tell a person.
+    pub fn sentence(&self) -> &'static str
+        ensures { result.now ≡ why_unread self.now }
+    {
+        match self {
+            Unread::Refused(fault) => fault.refusal.sentence(),
+            Unread::Memory(_) => "there is not enough memory",
+        }
+    }
+}
+
 impl fmt::Display for Refusal {
     fn fmt<W: fmt::Write>(&self, f: &mut fmt::Formatter<W>) -> fmt::Result {
         f.write_str(self.sentence())
@@ -114,7 +126,7 @@ impl fmt::Display for Unread {
     fn fmt<W: fmt::Write>(&self, f: &mut fmt::Formatter<W>) -> fmt::Result {
         match self {
             Unread::Refused(fault) => write!(f, "{fault}"),
-            Unread::Memory(_) => f.write_str("not read: there is not enough memory"),
+            Unread::Memory(_) => write!(f, "not read: {}", self.sentence()),
         }
     }
 }
