@@ -67,6 +67,15 @@ pub const ALL: usize = usize::MAX;
 // The first and the last unused bit of the word at a place.
 pub type UnusedBits = (usize, u32, u32);
 
+// Where eight outcomes stand: the place of the first, its word at weight 0, what each next one adds, and the weight's lowest bit.
+#[derive(Clone, Copy)]
+pub struct Eight {
+    pub at: usize,
+    pub first: u32,
+    pub step: u32,
+    pub low: u32,
+}
+
 // The weights of eight outcomes, and the number of the refusal, which is about the last of them; 0 where there is none.
 static WEIGHTS: [([u32; 8], u8); 11] = [
     ([1, 1, 1, 1, 1, 1, 1, 1], 0),
@@ -164,9 +173,14 @@ impl<R: Reader> Bench<R> {
         Ok(())
     }
 
-    // Eight outcomes of given weights, from a place on: the word at weight 0, what each next one adds, and the weight's lowest bit.
-    pub fn weighings(&self, layout: (usize, u32, u32, u32)) -> Result<(), Fail> {
-        let (at, first, step, low) = layout;
+    // Eight outcomes of given weights.
+    pub fn weighings(&self, eight: Eight) -> Result<(), Fail> {
+        let Eight {
+            at,
+            first,
+            step,
+            low,
+        } = eight;
         let last = at.saturating_add(7);
         for (weights, number) in &WEIGHTS {
             let mut put = Vec::new(self.heap);

@@ -442,7 +442,12 @@ fn fields(rt: HostRuntime) -> Result<(), Fail> {
     Bench::new(heap, Rule, &TEN)?.edits(&NEEDS)?;
     Bench::new(heap, Rule, &EIGHT)?.edits(&FULL)?;
     many.edits(&WIDTHS)?;
-    many.weighings((2, 0x80000000, 0, 20))
+    many.weighings(Eight {
+        at: 2,
+        first: 0x80000000,
+        step: 0,
+        low: 20,
+    })
 }
 
 #[test]

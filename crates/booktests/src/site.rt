@@ -591,7 +591,12 @@ fn fields(rt: HostRuntime) -> Result<(), Fail> {
     Bench::new(heap, Site(heap), &ONE)?.edits(&SMALL)?;
     Bench::new(heap, Site(heap), &ACTIONS)?.edits(&LAST_ACTION)?;
     crossing.edits(&WHOLES)?;
-    wide.weighings((18, 0x50000000, 1, 12))
+    wide.weighings(Eight {
+        at: 18,
+        first: 0x50000000,
+        step: 1,
+        low: 12,
+    })
 }
 
 #[test]

@@ -1,4 +1,7 @@
-// A list of at most so many items, held by value: it needs no memory of its own and is copied like a number.
+// A list of at most so many items, held by value: it needs no memory of its own and is copied like a number, which the kit's `ArrayVec`
+// is not. Its items are seen through `listed`; an `impl Model` could be `Copy` only if the items gave its fields back, and the unused
+// places don't. What fills one from another list is a loop of `push`: collecting asks for an allocator, which crates without a heap don't
+// have, and a `map` over a closure would require of its callers that it may be called, which no public function here does.
 
 #![tactic(auto)]
 

@@ -68,7 +68,8 @@ impl<T: Copy, const MOST: usize> Bounded<T, MOST> {
         Ok(())
     }
 
-    // Puts another item in place of item `i`, if there is one. The contract of `get_mut` does not say what the list becomes.
+    // Puts another item in place of item `i`, if there is one. The contract of a slice's `get_mut` does not
+    // say what the list becomes.
     pub fn replace(&mut self, i: usize, item: T)
         ensures { listed self.new ≡ slice_set (listed self.old) i item }
     {

@@ -75,10 +75,7 @@ fn lay_all(ground: Ground, wishes: &[&str]) -> Result<String, Failure> {
 
 // `KIND HEX HEX ..`: a ground model, and wish books to be laid on it.
 pub fn answer(heap: Global, words: &str) -> Result<String, Failure> {
-    let mut parts = Vec::new(heap);
-    for word in words.split(' ') {
-        parts.push(word)?;
-    }
+    let parts: Vec<&str> = words.split(' ').collect(heap)?;
     let [kind, hex, wishes @ ..] = parts.as_slice() else {
         return Err(Failure::Unknown);
     };

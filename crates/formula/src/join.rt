@@ -47,6 +47,7 @@ pub fn merge(words: &[Node]) -> Option<Merged>
     for word in words {
         let node = renumber(&numbers, *word);
         let place = register.enter(node)?;
+        // There is room: there are no more numbers than words.
         let _ = numbers.push(place as u8);
     }
     Some(Merged {

@@ -5,7 +5,7 @@ ghost use Rattle.std.specs.Prelude.{◌≡◌, true, length, slice_set};
 use super::table::at;
 use super::{NODES, Node};
 
-// Marks a place, unless it is past the end. The contract of `get_mut` does not say what the table becomes.
+// Marks a place, unless it is past the end. The contract of a slice's `get_mut` does not say what the table becomes.
 pub fn mark(marks: &mut [bool], place: usize)
     ensures { marks.new ≡ slice_set marks.old place true }
 {

@@ -34,7 +34,7 @@ fn verdict(node: Node, mask: u32, recalled: &Recalled<'_>, before: &[bool]) -> b
     }
 }
 
-// The truth of each of at most 128 nodes. It is a table of fixed length, filled in rising order, since a state is judged with no heap.
+// The truth of each of at most 128 nodes. That it is a table filled in rising order is fixed (docs/DECISIONS.md).
 fn truths(nodes: &[Node], mask: u32, recalled: &Recalled<'_>) -> [bool; 128]
     requires { length nodes.now ≤ 128 }
     ensures { take (length nodes.now) result ≡ verdicts mask (recalled_in recalled.now.items.now recalled.now.memory) nodes.now }

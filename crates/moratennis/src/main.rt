@@ -14,10 +14,7 @@ use std::process::ExitCode;
 
 // A refused book and a wrong command line end with status 1 and no more words.
 fn main(rt: HostRuntime) -> anyhow::Result<ExitCode> {
-    let mut words = Vec::new(rt.alloc());
-    for word in env::args(&rt)?.skip(1) {
-        words.push(word)?;
-    }
+    let words: Vec<String> = env::args(&rt)?.skip(1).collect(rt.alloc())?;
     match words.as_slice() {
         [] => {
             crossing::run(&rt)?;

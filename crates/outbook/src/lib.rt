@@ -23,7 +23,7 @@ impl OriginBook {
     }
 }
 
-// Every question but that of the ground goes to the book; a trait's methods are handed on one by one.
+// Every question but that of the ground goes to the book; a trait's methods are handed on one by one, since there is no delegation.
 impl SiteModel for OriginBook {
     ghost meaning = { λ o. by_origin (contents o.book) };
 

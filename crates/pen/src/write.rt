@@ -18,7 +18,8 @@ impl<'a> Pen<'a> {
         }
     }
 
-    // One word more. The room is asked by hand: after a write through `first_chunk_mut` the check knows no more of the table than its length.
+    // One word more. The room is asked by hand: tried with `first_chunk_mut` of the table's rest,
+    // after which the check knew no more of the table than its length.
     pub fn put(&mut self, word: u32)
         ensures { Adds (word ∷ []) self.old self.new }
     {

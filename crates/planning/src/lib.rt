@@ -1,3 +1,3 @@
-// Planning back from a horizon: what a plan answers and leaves in its tables.
+// Planning back from a horizon: what a plan answers and leaves in its tables. Definitions only; no code yet.
 
 #![tactic(auto)]

@@ -32,7 +32,7 @@ impl<'a, K: Key> Register<'a, K> {
     }
 
     // Enters the key, unless it is there, and says where it stands. A new key is refused where the table is full: its length is asked by
-    // hand, since the contract of `get_mut` does not say what the table becomes.
+    // hand, since the contract of a slice's `get_mut` does not say what the table becomes.
     pub fn enter(&mut self, key: K) -> Option<usize>
         ensures answer { Entered K.PartialEq.eq key (length self.old.keys.now) (listed self.old) (listed self.new) result }
         ensures rest { drop self.new.len self.new.keys.now ≡ drop self.new.len self.old.keys.now }

@@ -37,7 +37,7 @@ impl<K: Key> Register<'_, K> {
         &self.keys[..self.len]
     }
 
-    // Where the key stands, if it was entered.
+    // Where the key stands, if it was entered. Tried with `or_else`: the check then knows nothing of what its closure answers.
     pub fn place(&self, key: &K) -> Option<usize>
         ensures { Placed K.PartialEq.eq key.now (listed self.now) result }
     {

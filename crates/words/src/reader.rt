@@ -46,7 +46,8 @@ pub fn read<D: Draft>(bytes: &[u8]) -> Result<D::Book, Fault>
     ensures { Answers D.Means (reading D.format bytes.now) result }
 {
     let mut draft = D::blank();
-    // The words are counted as they are taken off the bytes: what is left decides too, at the end word.
+    // The words are counted as they are taken off the bytes: what is left decides too, at the end word. That a word is not there is told
+    // by `let else`, as in every reader.
     let mut rest = bytes;
     let mut place = 0;
     loop {

@@ -45,8 +45,7 @@ impl SiteBook {
     }
 }
 
-// The first eight outcomes, by value. A loop, since nothing collects into a bounded list, and a public `map` of one over a closure
-// would require that the closure may be called.
+// The first eight outcomes, by value. A loop of `push`: see crate bounded.
 fn gathered(moves: &[Move]) -> Outcomes
     ensures { listed result ≡ take 8 (map outcome_of moves.now) }
 {

@@ -27,7 +27,7 @@ pub fn read_site(heap: Global, bytes: &[u8]) -> Result<SiteBook, Unread>
 }
 
 // The tables of a file that is known to be a book. It requires that, since the pass that stores tests no word.
-// The loop is its own: it allocates, which no draft can, since a draft's step answers a refusal.
+// The loop is its own: it tests nothing and may run out of memory, and to `words::read` a step that fails has refused a word.
 fn stored(heap: Global, bytes: &[u8], counts: Counts) -> Result<SiteBook, AllocError>
     requires { (b : Site) × ((reading site_format bytes.now ≡ got b) × Counted counts b) }
     ensures { IfOk result (λ k. reading site_format bytes.now ≡ got (contents k)) }

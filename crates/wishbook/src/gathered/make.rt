@@ -8,7 +8,7 @@ use bounded::Bounded;
 use formula::{Item, Node, at, keep_items, mark_resting};
 use wishlayout::Wish;
 
-// The wishes, each by the number of its node. Here and in `roots` a loop fills the list by `push`: nothing collects into a bounded list.
+// The wishes, each by the number of its node. Here and in `roots` a loop fills the list by `push`: see crate bounded.
 pub(super) fn rename_all(wishes: &Bounded<Wish, 16>, numbers: &[u8]) -> Bounded<Wish, 16>
     ensures { listed result ≡ map (renamed numbers.now) (listed wishes.now) }
 {
@@ -16,7 +16,7 @@ pub(super) fn rename_all(wishes: &Bounded<Wish, 16>, numbers: &[u8]) -> Bounded<
     for wish in wishes.as_slice() {
         let _ = all.push(Wish {
             node: at(numbers, wish.node as usize, 0),
-            raised: wish.raised,
+            ..*wish
         });
     }
     all
@@ -33,7 +33,7 @@ fn roots(wishes: &Bounded<Wish, 16>) -> Bounded<u8, 16>
     all
 }
 
-// The memory items of the wishes, unless they are more than 16.
+// The memory items of the wishes, unless they are more than 16; more than 128 nodes there are not.
 #[tactic(auto, using(formula::proofs::Padded::kept_rested))]
 pub(super) fn remember(
     nodes: &Bounded<Node, 128>,

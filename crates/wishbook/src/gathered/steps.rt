@@ -56,8 +56,7 @@ impl Draft for Gathered {
     // A draft is a state machine: which words may come depends on what has come, and so the tests stand in this order.
     fn step(&mut self, word: u32) -> Result<Turn, Refusal> {
         let kind = word >> 28;
-        let before = &*self;
-        let (count, wished) = (before.nodes.len(), before.wishes.len());
+        let (count, wished) = (self.nodes.len(), self.wishes.len());
         if wished == 0 {
             if kind != WISH {
                 return add(&mut self.nodes, || read_node(word, count as u32));
