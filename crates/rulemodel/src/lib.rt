@@ -13,13 +13,13 @@ use model::{Outcome, Outcomes};
 use rulelayout::{Effect, total_weight};
 
 // Where an outcome lands: its switches to clear go off, then its switches to set go on.
-#[tactic(auto, using(crate::proofs::Switches::lands))]
+#[tactic(auto, using(crate::proofs::Switches::lands, crate::proofs::Switches::cleared))]
 pub fn land(s: u64, effect: Effect) -> u64
     ensures landing { result ≡ landing s effect }
     ensures switches { Lands s effect result }
 {
     let clear = effect.clear as u64;
-    ((s | clear) ^ clear) | effect.set as u64
+    (s & !clear) | effect.set as u64
 }
 
 // Whether all switches of `on` are on and all of `off` are off.
