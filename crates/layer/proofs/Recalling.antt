@@ -1,7 +1,9 @@
 -- What a memory recalls: of its items, what was remembered of each; and nothing else. An empty memory recalls nothing.
-use Rattle.std.proofs.Common.{◌≡◌, ℕ, zero, suc, ◌+◌, ◌*◌, ◌/◌, ◌%◌, Bool, true, false, ◌&&◌, ◌||◌, eqb, List, [], ◌∷◌, sym, refl, ap, ◌∙◌, subst, inl, inr, arith}
+use Rattle.std.proofs.Common.{◌≡◌, ℕ, zero, suc, ◌+◌, ◌*◌, ◌/◌, ◌%◌, ◌^◌, ◌<◌, ◌≤◌, Bool, true, false, ◌&&◌, ◌||◌, eqb, List, [], ◌∷◌, sym, refl, ap, ◌∙◌, subst, inl, inr, arith}
 use Rattle.std.proofs.Math.Bool.{and-false}
-use Rattle.std.specs.List.{ContainsAt as Has}
+use Rattle.std.specs.List.{ContainsAt as Has, enumerate_from, list_any}
+use Rattle.std.proofs.lemmas.Nat.{shr-shr}
+use Rattle.std.proofs.lemmas.Nat.Bits.{bit_at_above}
 use Rattle.std.proofs.lemmas.Bool.{cases_Bool, both_ways, and_parts, and_from, or_cases, or_left, or_right, eqb-true, eq-eqb}
 use Rattle.formula.specs.declared.Item.{Item}
 use Rattle.formula.specs.declared.Item.TheVariants.{Held, Failed}
@@ -60,3 +62,17 @@ module _ (vs : List Bool) where
 pub recalled_empty : (items : List Item) (x : Item) → recalled items 0 x ≡ false
 recalled_empty [] x = refl
 recalled_empty (y ∷ items) x = λ k. and-false (same_item x y) k || recalled_empty items x k
+
+-- a memory of 64 bits has none from the 64th on
+pub no_bit : (memory k : ℕ) → memory < 2 ^ 64 → 64 ≤ k → eqb (memory / 2 ^ k % 2) 1 ≡ false
+no_bit memory k small high = ap (λ n. eqb n 1) (bit_at_above memory 64 k small high)
+
+-- whether the item at a place is x, and its bit set
+abbrev pub set_there : Item → ℕ → ℕ × Item → Bool
+set_there x memory p = same_item x p.1 && eqb (memory / 2 ^ p.0 % 2) 1
+
+pub recalled_by_place : (items : List Item) (memory k : ℕ) (x : Item) → list_any (set_there x memory) (enumerate_from k items) ≡ recalled items (memory / 2 ^ k) x
+recalled_by_place [] memory k x = refl
+recalled_by_place (y ∷ items) memory k x =
+    let next : memory / 2 ^ (k + 1) ≡ memory / 2 ^ k / 2 = sym (shr-shr memory k 1) in
+    λ i. set_there x memory (k, y) || ((recalled_by_place items memory (k + 1) x ∙ ap (λ m. recalled items m x) next) i)

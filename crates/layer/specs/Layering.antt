@@ -1,6 +1,6 @@
 -- A layer lays one wish book on any model and is again a model. Its states are a state below and a memory, as one number:
 -- (state below) × 65,536 + memory. The memory of the state arrived at is worked out at the state left.
-use Rattle.std.specs.Prelude.{ℕ, ◌+◌, ◌*◌, ◌/◌, ◌%◌, ◌^◌, Bool, true, cond, ◌&&◌, List, [], ◌∷◌, map, length, pos, Some, None, Option, nat_le, nat_lt, unsigned_abs}
+use Rattle.std.specs.Prelude.{ℕ, ◌+◌, ◌*◌, ◌/◌, ◌%◌, ◌^◌, Bool, true, cond, ◌&&◌, List, [], map, length, pos, Some, None, Option, nat_le, nat_lt, sum_by, unsigned_abs}
 use Rattle.formula.specs.declared.Node.{Node}
 use Rattle.formula.specs.declared.Node.TheVariants.{Label, True, Not, And, Or, Previous, Since, Always, Once}
 use Rattle.model.specs.declared.Outcome.{Outcome}
@@ -27,8 +27,7 @@ names_label_below labels (Once a) = true
 
 -- the sizes of all amounts together
 abbrev pub amounts : List Wish → ℕ
-amounts [] = 0
-amounts (w ∷ ws) = unsigned_abs (amount w) + amounts ws
+amounts ws = sum_by (λ w. unsigned_abs (amount w)) ws
 
 abbrev pub has_labels : Model → Book → Bool
 has_labels m b = all (names_label_below m.labels) b.nodes && nat_le (m.labels + length b.wishes) 24

@@ -49,6 +49,10 @@ abbrev pub laid_book : Model → Option Book → Option Book
 laid_book m None = None
 laid_book m (Some b) = cond (fits m b) (Some b) None
 
--- the remembered bits in a state, where a book is laid
-abbrev pub memory_in : Model → Option Book → ℕ → Option ℕ
-memory_in m o s = option_map (λ b. memory s) (laid_book m o)
+-- the book that a layer lays, if it has one that fits
+abbrev pub laid_in : {X : Type 0} → (X → Model) → Layer X → Option Book
+laid_in mean l = laid_book (mean l.below) (option_map contents l.book)
+
+-- the remembered bits in a state of a layer, where a book is laid
+abbrev pub memory_in : {X : Type 0} → (X → Model) → Layer X → ℕ → Option ℕ
+memory_in mean l s = option_map (λ b. memory s) (laid_in mean l)

@@ -4,6 +4,7 @@ use Rattle.std.proofs.Common.{pow-suc, lt_of_lt_of_le, arith, pow_mono}
 use borrow.Author.Differences.{abs_is}
 use Rattle.std.proofs.lemmas.Nat.{pow-add, mul-add-lt}
 use Rattle.std.proofs.lemmas.Int.{ints}
+use Rattle.std.proofs.lemmas.List.Sums.{sum_by-cons}
 use Rattle.wishlayout.specs.declared.Wish.{Wish}
 use Rattle.wishlayout.specs.Wishes.{amount}
 use Rattle.layer.specs.Judging.{bit, bits_of, wish_held, earned}
@@ -37,4 +38,4 @@ pub earned_within : (sum : ℤ) (ws : List Wish) (vs : List Bool) → unsigned_a
 earned_within sum [] vs = omega arith
 earned_within sum (w ∷ ws) vs =
     let step = abs_step (wish_held vs w) sum (amount w) in
-    omega (arith, earned_within (cond (wish_held vs w) (sum +ℤ amount w) sum) ws vs)
+    omega (arith, earned_within (cond (wish_held vs w) (sum +ℤ amount w) sum) ws vs, sum_by-cons (λ (x : Wish). unsigned_abs (amount x)) w ws)

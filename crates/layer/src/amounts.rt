@@ -9,9 +9,8 @@ use wishbook::WishBook;
 pub(crate) fn amounts(book: &WishBook) -> u32
     ensures { result ≡ amounts_of (contents book.now).wishes }
 {
-    let mut total = 0;
-    for wish in book.wishes() {
-        total += wish.amount().unsigned_abs();
-    }
-    total
+    book.wishes()
+        .iter()
+        .map(|wish| wish.amount().unsigned_abs())
+        .sum()
 }

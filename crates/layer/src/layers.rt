@@ -3,7 +3,7 @@ ghost use Rattle.std.specs.Prelude.{◌≡◌, None, MatchOption};
 ghost use Rattle.std.specs.Option.{option_map};
 ghost use Rattle.wishbook.specs.Contents.{contents};
 ghost use Rattle.layer.specs.Layering.{over, refusal as refusal_of};
-ghost use Rattle.layer.specs.Laying.{meaning_of, Lies, Bare, laid_book, memory_in};
+ghost use Rattle.layer.specs.Laying.{meaning_of, Lies, Bare, laid_in, memory_in};
 ghost use Rattle.layer.specs.Lawfulness.{layer_lawful};
 
 use crate::over::{MEMORIES, Over};
@@ -43,7 +43,7 @@ impl<M: SiteModel> Layer<M> {
 
     // The layer over the model below, where the book can be laid.
     fn over(&self) -> Option<Over<'_, M>>
-        ensures book { option_map (λ o. contents o.book.now) result ≡ laid_book (M.SiteModel.meaning self.now.below) (option_map contents self.now.book) }
+        ensures book { option_map (λ o. contents o.book.now) result ≡ laid_in M.SiteModel.meaning self.now }
         ensures meaning { MatchOption result (Bare M.SiteModel.meaning self.now) (λ o. (o.below.now ≡ self.now.below) × Lies M.SiteModel.meaning self.now (contents o.book.now)) }
     {
         Over::new(&self.below, self.book.as_ref()?).ok()
@@ -51,7 +51,7 @@ impl<M: SiteModel> Layer<M> {
 
     // The book, where it is laid.
     pub fn laid(&self) -> Option<&WishBook>
-        ensures book { option_map (λ b. contents b.now) result ≡ laid_book (M.SiteModel.meaning self.now.below) (option_map contents self.now.book) }
+        ensures book { option_map (λ b. contents b.now) result ≡ laid_in M.SiteModel.meaning self.now }
         ensures meaning { MatchOption result (Bare M.SiteModel.meaning self.now) (λ b. Lies M.SiteModel.meaning self.now (contents b.now)) }
     {
         Some(self.over()?.book)
@@ -59,7 +59,7 @@ impl<M: SiteModel> Layer<M> {
 
     // The remembered bits in a state, where a book is laid.
     pub fn memory_of(&self, s: u64) -> Option<u64>
-        ensures { result ≡ memory_in (M.SiteModel.meaning self.now.below) (option_map contents self.now.book) s }
+        ensures { result ≡ memory_in M.SiteModel.meaning self.now s }
     {
         self.laid().map(|_| s % MEMORIES)
     }
@@ -75,7 +75,7 @@ macro_rules! answer {
     };
 }
 
-// A trait's methods are handed on one by one.
+// A trait's methods are handed on one by one: there is no delegation.
 impl<M: SiteModel> SiteModel for Layer<M> {
     ghost meaning = { λ l. meaning_of M.SiteModel.meaning l };
 

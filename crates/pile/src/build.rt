@@ -2,7 +2,6 @@
 ghost use Rattle.std.specs.Prelude.{◌≡◌, [], ◌∷◌};
 ghost use Rattle.std.specs.Option.{option_map};
 ghost use Rattle.wishbook.specs.Contents.{contents};
-ghost use Rattle.layer.specs.Layering.{over};
 ghost use Rattle.layer.specs.Laying.{meaning_of};
 ghost use Rattle.pile.specs.Piles.{piled};
 
@@ -14,13 +13,6 @@ use wishbook::WishBook;
 // A pile of nought to three wish books.
 pub type Three<G> = Layer<Layer<Layer<Footing<G>>>>;
 
-// One floor more: a book, or none.
-pub fn floor<M: SiteModel>(below: M, book: Option<WishBook>) -> Layer<M>
-    ensures { meaning_of M.SiteModel.meaning result ≡ over (M.SiteModel.meaning below) (option_map contents book) }
-{
-    Layer::new(below, book)
-}
-
 // The books laid on the ground model, the first one lowest.
 pub fn stack<G: GroundModel>(
     bottom: G,
@@ -30,5 +22,5 @@ pub fn stack<G: GroundModel>(
 ) -> Three<G>
     ensures { meaning_of (meaning_of (meaning_of (λ f. G.SiteModel.meaning f.bottom))) result ≡ piled (G.SiteModel.meaning bottom) (option_map contents first ∷ (option_map contents second ∷ (option_map contents third ∷ []))) }
 {
-    floor(floor(floor(Footing::new(bottom), first), second), third)
+    Layer::new(Layer::new(Layer::new(Footing::new(bottom), first), second), third)
 }

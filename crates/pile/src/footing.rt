@@ -30,7 +30,7 @@ impl<G: GroundModel> Footing<G> {
     }
 }
 
-// Every question goes to the ground model; a trait's methods are handed on one by one.
+// Every question goes to the ground model. A trait's methods are handed on one by one: there is no delegation.
 impl<G: GroundModel> SiteModel for Footing<G> {
     ghost meaning = { λ f. G.SiteModel.meaning f.bottom };
 

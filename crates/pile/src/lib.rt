@@ -7,6 +7,6 @@ mod floors;
 mod footing;
 mod promise;
 
-pub use build::{Three, floor, stack};
+pub use build::{Three, stack};
 pub use footing::{Footing, Pile};
 pub use promise::start_of;

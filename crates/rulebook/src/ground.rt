@@ -29,10 +29,10 @@ impl RuleBook {
     }
 
     // The action, where it is offered in the state.
-    fn offered(&self, s: u64, a: u32) -> Option<Action>
-        ensures { MatchOption result (offers (contents self.now) s a ≡ false) (λ x. (offers (contents self.now) s a ≡ true) × (act_at (contents self.now) a ≡ act_from x)) }
+    fn offered(&self, s: u64, a: u32) -> Option<&Action>
+        ensures { MatchOption result (offers (contents self.now) s a ≡ false) (λ x. (offers (contents self.now) s a ≡ true) × (act_at (contents self.now) a ≡ act_from x.now)) }
     {
-        let action = self.acts.get(a as usize)?;
+        let action = self.acts.as_slice().get(a as usize)?;
         (s < self.states() && needs_met(s, action.on, action.off)).then_some(action)
     }
 }

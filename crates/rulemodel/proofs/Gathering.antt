@@ -6,13 +6,14 @@ use Rattle.std.proofs.lemmas.Grind.{common_steps}
 use Rattle.std.specs.List.{position_or_len}
 use Rattle.std.proofs.lemmas.List.Sums.{sum_by-cons}
 use Rattle.model.specs.declared.Outcome.{Outcome}
+use Rattle.model.specs.Histories.{targets_of}
 use Rattle.model.specs.Models.{total as weights}
 use Rattle.register.specs.Keys.{number_decides, Kept, place_of, enter, enter_all}
 use Rattle.register.proofs.Order.{enter_all_kept}
 use Rattle.words.specs.Tests.{all}
 use Rattle.rulelayout.specs.declared.Effect.{Effect}
 use Rattle.rulelayout.specs.Rule.{total}
-use Rattle.rulemodel.specs.Meaning.{landing, heavier, added, landings_onto, landings, targets_of, weight_of, landed, Gathered}
+use Rattle.rulemodel.specs.Meaning.{landing, heavier, added, landings_onto, landings, weight_of, landed, Gathered}
 
 -- targets
 

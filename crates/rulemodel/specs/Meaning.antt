@@ -3,6 +3,7 @@
 -- outcome, at the place of the first of them, with their weights added.
 use Rattle.std.specs.Prelude.{◌≡◌, ℕ, ◌+◌, ◌/◌, ◌%◌, ◌^◌, Bool, true, false, cond, not, ◌&&◌, ◌||◌, List, [], ◌∷◌, map, length, pos, ◌==◌, bit_and, bit_or, bit_xor, nat_le, nat_lt, slice_index_or}
 use Rattle.model.specs.declared.Outcome.{Outcome}
+use Rattle.model.specs.Histories.{targets_of}
 use Rattle.model.specs.Models.{Model}
 use Rattle.register.specs.Keys.{Kept}
 use Rattle.rulelayout.specs.declared.Effect.{Effect}
@@ -40,9 +41,6 @@ landings s es = landings_onto s [] es
 -- more than eight effects, or more than eight eighths, are no action's
 abbrev pub outcomes_from : ℕ → List Effect → List Outcome
 outcomes_from s es = cond (nat_le (length es) 8 && nat_le (total es) 8) (landings s es) []
-
-abbrev pub targets_of : List Outcome → List ℕ
-targets_of os = map (λ o. o.target) os
 
 -- the weight of the outcome with the target t, 0 where there is none
 abbrev pub weight_of : ℕ → List Outcome → ℕ

@@ -13,13 +13,13 @@ use model::{Outcome, Outcomes};
 use rulelayout::{Effect, total_weight};
 
 // Where an outcome lands: its switches to clear go off, then its switches to set go on.
-#[tactic(auto, using(crate::proofs::Switches::lands))]
+#[tactic(auto, using(crate::proofs::Switches::lands, crate::proofs::Switches::cleared))]
 pub fn land(s: u64, effect: Effect) -> u64
     ensures landing { result ≡ landing s effect }
     ensures switches { Lands s effect result }
 {
     let clear = effect.clear as u64;
-    ((s | clear) ^ clear) | effect.set as u64
+    (s & !clear) | effect.set as u64
 }
 
 // Whether all switches of `on` are on and all of `off` are off.
@@ -57,7 +57,8 @@ fn with_landing(mut ways: Outcomes, target: u64, weight: u8) -> Outcomes
 }
 
 // The outcomes in a state of an action with these effects: those that land alike are one, at the first one's place, with their
-// weights added. More than eight effects, or more than eight eighths, are no action's and have no outcomes.
+// weights added. More than eight effects, or more than eight eighths, are no action's and have no outcomes. It takes any slice: a
+// list of at most eight in its place would ask more of callers.
 pub fn outcomes_of(s: u64, effects: &[Effect]) -> Outcomes
     ensures outcomes { listed result ≡ outcomes_from s effects.now }
     ensures gathered { length effects.now ≤ 8 → total effects.now ≤ 8 → Gathered s effects.now (listed result) }
