@@ -5,29 +5,12 @@ ghost use Rattle.pen.specs.Laid.{Adds};
 ghost use Rattle.register.specs.Keys.{place_of};
 ghost use Rattle.register.specs.Listed.{listed};
 ghost use Rattle.sitelayout.specs.Layout.{cell_word, cell_words, move_words};
-ghost use Rattle.sitelayout.specs.OneWord.{word_of_entry, word_of_move};
 ghost use Rattle.writeout.specs.Book.{cell_of, cells_below, cells_of, move_to};
 
 use crate::listing::Listing;
-use crate::markwords::word;
 use model::{Outcomes, SiteModel};
 use pen::Pen;
-use sitelayout::Kind;
-
-fn move_word(target: u16, weight: u8) -> u32
-    ensures { result ≡ word_of_move (record { target = target; weight = weight }) }
-{
-    word(Kind::Move, target as u32 + weight as u32 * 4096)
-}
-
-fn entry_word(place: u16, action: u8, outcomes: u8) -> u32
-    ensures { result ≡ word_of_entry place action outcomes }
-{
-    word(
-        Kind::Entry,
-        place as u32 + action as u32 * 4096 + outcomes as u32 * 32768,
-    )
-}
+use sitelayout::{Entry, Move};
 
 impl<M: SiteModel> Listing<'_, '_, M> {
     // Where a code stands among the listed ones. One that is not listed has the number after the last, in the definition too: the targets of
@@ -43,7 +26,11 @@ impl<M: SiteModel> Listing<'_, '_, M> {
         ensures { Adds (move_words (map (move_to (listed self.now.codes.now)) (ways outcomes.now))) pen.old pen.new }
     {
         for way in outcomes.as_slice() {
-            pen.put(move_word(self.place_of(way.target), way.weight));
+            let step = Move {
+                target: self.place_of(way.target),
+                weight: way.weight,
+            };
+            pen.put(step.word());
         }
     }
 
@@ -54,7 +41,12 @@ impl<M: SiteModel> Listing<'_, '_, M> {
     {
         let outcomes = self.model.outcomes(code, action);
         if !outcomes.is_empty() {
-            pen.put(entry_word(place, action as u8, outcomes.len() as u8));
+            let entry = Entry {
+                state: place as u32,
+                action,
+                outcomes: outcomes.len() as u32,
+            };
+            pen.put(entry.word());
             self.write_moves(&outcomes, pen);
         }
     }
