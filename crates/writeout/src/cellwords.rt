@@ -1,11 +1,11 @@
 // The words that say what each action in each state leads to.
-ghost use Rattle.std.specs.Prelude.{◌≡◌, ◌+◌, ◌*◌, ◌<◌, ◌≤◌, map, nat_eq};
+ghost use Rattle.std.specs.Prelude.{◌≡◌, ◌<◌, map, nat_eq};
 ghost use Rattle.bounded.specs.Listed.{listed as ways};
 ghost use Rattle.pen.specs.Laid.{Adds};
 ghost use Rattle.register.specs.Keys.{place_of};
 ghost use Rattle.register.specs.Listed.{listed};
-ghost use Rattle.sitelayout.specs.Layout.{cell_word, cell_words, move_words};
-ghost use Rattle.writeout.specs.Book.{cell_of, cells_below, cells_of, move_to};
+ghost use Rattle.sitelayout.specs.Layout.{move_words};
+ghost use Rattle.writeout.specs.Book.{action_words, move_to, state_words, table_words};
 
 use crate::listing::Listing;
 use model::{Outcomes, SiteModel};
@@ -37,7 +37,7 @@ impl<M: SiteModel> Listing<'_, '_, M> {
     // One action in the state at a place; nothing where it is not offered.
     fn write_cell(&self, place: u16, code: u64, action: u32, pen: &mut Pen)
         requires { action < (M.SiteModel.meaning self.now.model.now).actions }
-        ensures { Adds (cell_word (M.SiteModel.meaning self.now.model.now).actions (place * (M.SiteModel.meaning self.now.model.now).actions + action) (cell_of (M.SiteModel.meaning self.now.model.now) (listed self.now.codes.now) code action)) pen.old pen.new }
+        ensures { Adds (action_words (M.SiteModel.meaning self.now.model.now) (listed self.now.codes.now) place code action) pen.old pen.new }
     {
         let outcomes = self.model.outcomes(code, action);
         if !outcomes.is_empty() {
@@ -53,7 +53,7 @@ impl<M: SiteModel> Listing<'_, '_, M> {
 
     // All actions in the state at a place.
     fn write_state(&self, place: u16, code: u64, pen: &mut Pen)
-        ensures { Adds (cell_words (M.SiteModel.meaning self.now.model.now).actions (place * (M.SiteModel.meaning self.now.model.now).actions) (cells_below (M.SiteModel.meaning self.now.model.now) (listed self.now.codes.now) code (M.SiteModel.meaning self.now.model.now).actions)) pen.old pen.new }
+        ensures { Adds (state_words (M.SiteModel.meaning self.now.model.now) (listed self.now.codes.now) place code) pen.old pen.new }
     {
         for action in 0..self.model.actions() {
             self.write_cell(place, code, action, pen);
@@ -62,7 +62,7 @@ impl<M: SiteModel> Listing<'_, '_, M> {
 
     // All actions in all listed states.
     pub(crate) fn write_cells(&self, pen: &mut Pen)
-        ensures { Adds (cell_words (M.SiteModel.meaning self.now.model.now).actions 0 (cells_of (M.SiteModel.meaning self.now.model.now) (listed self.now.codes.now) (listed self.now.codes.now))) pen.old pen.new }
+        ensures { Adds (table_words (M.SiteModel.meaning self.now.model.now) (listed self.now.codes.now)) pen.old pen.new }
     {
         for (place, code) in self.codes.as_slice().iter().enumerate() {
             self.write_state(place as u16, *code, pen);

@@ -1,10 +1,10 @@
 // The words that say how large a book is and what each state shows.
-ghost use Rattle.std.specs.Prelude.{◌≡◌, ◌<◌, ◌≤◌, [], ◌∷◌, length, map, pos, ◌+ℤ◌, unsigned_abs};
+ghost use Rattle.std.specs.Prelude.{◌≡◌, ◌<◌, ◌≤◌, [], ◌∷◌, map, pos, ◌+ℤ◌, unsigned_abs};
 ghost use Rattle.pen.specs.Laid.{Adds};
 ghost use Rattle.register.specs.Listed.{listed};
 ghost use Rattle.sitelayout.specs.Layout.{mark_words};
-ghost use Rattle.sitelayout.specs.OneWord.{word_of_head, word_of_reward};
-ghost use Rattle.writeout.specs.Book.{mark_of};
+ghost use Rattle.sitelayout.specs.OneWord.{word_of_reward};
+ghost use Rattle.writeout.specs.Book.{head_words, mark_of};
 
 use crate::listing::Listing;
 use model::SiteModel;
@@ -25,7 +25,7 @@ fn reward_word(reward: i32, origin: u64) -> u32
 
 impl<M: SiteModel> Listing<'_, '_, M> {
     pub(crate) fn write_head(&self, pen: &mut Pen)
-        ensures { Adds (word_of_head (length (listed self.now.codes.now)) (M.SiteModel.meaning self.now.model.now).labels (M.SiteModel.meaning self.now.model.now).actions ∷ []) pen.old pen.new }
+        ensures { Adds (head_words (M.SiteModel.meaning self.now.model.now) (listed self.now.codes.now)) pen.old pen.new }
     {
         let sizes = self.model.sizes();
         let head = Head {
