@@ -12,7 +12,7 @@ use Rattle.model.specs.Histories.{targets_of}
 use Rattle.model.specs.Models.{Model, Lawful}
 use Rattle.register.specs.Keys.{place_of, enter, enter_all, Entered}
 use Rattle.register.proofs.Counting.{drop_further}
-use Rattle.register.proofs.Keys.{enter_both, enter_new, enter_all-append, enter_all-length}
+use Rattle.register.proofs.Keys.{enter_both, enter_new, enter-length, enter_all-append, enter_all-length}
 use Rattle.reach.specs.Adding.{Added, Onto, room_in}
 use Rattle.reach.specs.Reached.{Lists, Searched}
 use Rattle.reach.specs.Search.{targets_below, leads_to, listed_after, codes_of}
@@ -125,6 +125,11 @@ search_done m law room n codes e near done fits few =
     let all : codes_of m ≡ listed_after m n = listed_complete m n (omega arith) (omega (arith, ap length e)) in
     let same : codes ≡ codes_of m = e ∙ sym all in
     (same, (fits, subst (Lists m) (sym same) (search_lists m law (omega (arith, ap length same)))))
+
+-- after an entry there are no fewer codes
+pub entered_more : (before after : List ℕ) (room code : ℕ) (answer : Option ℕ) → Entered eqb code room before after answer → length before ≤ length after
+entered_more before after room code (Some p) entered = omega (arith, ap length entered.1, enter-length eqb code before)
+entered_more before after room code None (new, full, same) = omega (arith, ap length same)
 
 -- a code that is refused, or entered at the limit, is one too many
 pub not_listed : (before after : List ℕ) (room code : ℕ) (answer : Option ℕ) → Entered eqb code room before after answer → ((p : ℕ) → answer ≡ Some p → 4096 ≤ p) → room_in room < length (enter eqb code before)

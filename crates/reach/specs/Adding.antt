@@ -24,3 +24,8 @@ module _ {k : key.Ghosts ℕ} {e : equality.Ghosts ℕ} where
     pub rest : drop after.len after.keys.now ≡ drop after.len before.keys.now
     pub room : length after.keys.now ≡ length before.keys.now
     pub lent : after.keys.ghost_name ≡ before.keys.ghost_name
+
+  -- codes are added to the same table
+  pub record Adds (codes : List ℕ) (before after : Register ℕ k e) (answer : Result ⊤ Refusal) : Type 0 where
+    pub added : Added codes before after answer
+    pub onto : Onto before after

@@ -4,7 +4,7 @@
 
 ghost use Rattle.bounded.specs.Listed.{listed as ways};
 ghost use Rattle.model.specs.Histories.{targets_of};
-ghost use Rattle.reach.specs.Adding.{Added, Onto, room_in};
+ghost use Rattle.reach.specs.Adding.{Adds, room_in};
 ghost use Rattle.reach.specs.Reached.{Searched};
 ghost use Rattle.reach.specs.Search.{leads_to};
 ghost use Rattle.register.specs.Listed.{listed};
@@ -35,12 +35,9 @@ pub fn search<M: SiteModel>(m: &M, codes: &mut Register<u64>) -> Result<(), Refu
     Ok(())
 }
 
-// What is added is each function's own to say; that it is added to the same list, all three say.
-
 // Adds the unlisted targets of a state, actions rising.
 fn add_targets<M: SiteModel>(m: &M, state: u64, codes: &mut Register<u64>) -> Result<(), Refusal>
-    ensures added { Added (leads_to (M.SiteModel.meaning m.now) state) codes.old codes.new result }
-    ensures onto { Onto codes.old codes.new }
+    ensures { Adds (leads_to (M.SiteModel.meaning m.now) state) codes.old codes.new result }
 {
     for action in 0..m.actions() {
         add_outcomes(&m.outcomes(state, action), codes)?;
@@ -50,8 +47,7 @@ fn add_targets<M: SiteModel>(m: &M, state: u64, codes: &mut Register<u64>) -> Re
 
 // Adds the unlisted targets of an action's outcomes, in order.
 fn add_outcomes(outcomes: &Outcomes, codes: &mut Register<u64>) -> Result<(), Refusal>
-    ensures added { Added (targets_of (ways outcomes.now)) codes.old codes.new result }
-    ensures onto { Onto codes.old codes.new }
+    ensures { Adds (targets_of (ways outcomes.now)) codes.old codes.new result }
 {
     for way in outcomes.as_slice() {
         list(codes, way.target)?;
@@ -61,8 +57,7 @@ fn add_outcomes(outcomes: &Outcomes, codes: &mut Register<u64>) -> Result<(), Re
 
 // Adds one state, unless it is listed.
 fn list(codes: &mut Register<u64>, code: u64) -> Result<(), Refusal>
-    ensures added { Added (code ∷ []) codes.old codes.new result }
-    ensures onto { Onto codes.old codes.new }
+    ensures { Adds (code ∷ []) codes.old codes.new result }
 {
     match codes.enter(code) {
         Some(place) if place < MOST => Ok(()),

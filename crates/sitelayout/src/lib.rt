@@ -10,8 +10,10 @@ use refusal::Refusal;
 use words::{field, fits, open};
 
 mod kind;
+mod written;
 
 pub use kind::Kind;
+pub use written::{end_word, mask_word};
 
 // How many states, labels and actions a book has.
 #[derive(Clone, Copy, Debug, PartialEq, Eq)]

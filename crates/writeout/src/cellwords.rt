@@ -1,33 +1,16 @@
 // The words that say what each action in each state leads to.
-ghost use Rattle.std.specs.Prelude.{◌≡◌, ◌+◌, ◌*◌, ◌<◌, ◌≤◌, map, nat_eq};
+ghost use Rattle.std.specs.Prelude.{◌≡◌, ◌<◌, map, nat_eq};
 ghost use Rattle.bounded.specs.Listed.{listed as ways};
 ghost use Rattle.pen.specs.Laid.{Adds};
 ghost use Rattle.register.specs.Keys.{place_of};
 ghost use Rattle.register.specs.Listed.{listed};
-ghost use Rattle.sitelayout.specs.Layout.{cell_word, cell_words, move_words};
-ghost use Rattle.sitelayout.specs.OneWord.{word_of_entry, word_of_move};
-ghost use Rattle.writeout.specs.Book.{cell_of, cells_below, cells_of, move_to};
+ghost use Rattle.sitelayout.specs.Layout.{move_words};
+ghost use Rattle.writeout.specs.Book.{action_words, move_to, state_words, table_words};
 
 use crate::listing::Listing;
-use crate::markwords::word;
 use model::{Outcomes, SiteModel};
 use pen::Pen;
-use sitelayout::Kind;
-
-fn move_word(target: u16, weight: u8) -> u32
-    ensures { result ≡ word_of_move (record { target = target; weight = weight }) }
-{
-    word(Kind::Move, target as u32 + weight as u32 * 4096)
-}
-
-fn entry_word(place: u16, action: u8, outcomes: u8) -> u32
-    ensures { result ≡ word_of_entry place action outcomes }
-{
-    word(
-        Kind::Entry,
-        place as u32 + action as u32 * 4096 + outcomes as u32 * 32768,
-    )
-}
+use sitelayout::{Entry, Move};
 
 impl<M: SiteModel> Listing<'_, '_, M> {
     // Where a code stands among the listed ones. One that is not listed has the number after the last, in the definition too: the targets of
@@ -43,25 +26,34 @@ impl<M: SiteModel> Listing<'_, '_, M> {
         ensures { Adds (move_words (map (move_to (listed self.now.codes.now)) (ways outcomes.now))) pen.old pen.new }
     {
         for way in outcomes.as_slice() {
-            pen.put(move_word(self.place_of(way.target), way.weight));
+            let step = Move {
+                target: self.place_of(way.target),
+                weight: way.weight,
+            };
+            pen.put(step.word());
         }
     }
 
     // One action in the state at a place; nothing where it is not offered.
     fn write_cell(&self, place: u16, code: u64, action: u32, pen: &mut Pen)
         requires { action < (M.SiteModel.meaning self.now.model.now).actions }
-        ensures { Adds (cell_word (M.SiteModel.meaning self.now.model.now).actions (place * (M.SiteModel.meaning self.now.model.now).actions + action) (cell_of (M.SiteModel.meaning self.now.model.now) (listed self.now.codes.now) code action)) pen.old pen.new }
+        ensures { Adds (action_words (M.SiteModel.meaning self.now.model.now) (listed self.now.codes.now) place code action) pen.old pen.new }
     {
         let outcomes = self.model.outcomes(code, action);
         if !outcomes.is_empty() {
-            pen.put(entry_word(place, action as u8, outcomes.len() as u8));
+            let entry = Entry {
+                state: place as u32,
+                action,
+                outcomes: outcomes.len() as u32,
+            };
+            pen.put(entry.word());
             self.write_moves(&outcomes, pen);
         }
     }
 
     // All actions in the state at a place.
     fn write_state(&self, place: u16, code: u64, pen: &mut Pen)
-        ensures { Adds (cell_words (M.SiteModel.meaning self.now.model.now).actions (place * (M.SiteModel.meaning self.now.model.now).actions) (cells_below (M.SiteModel.meaning self.now.model.now) (listed self.now.codes.now) code (M.SiteModel.meaning self.now.model.now).actions)) pen.old pen.new }
+        ensures { Adds (state_words (M.SiteModel.meaning self.now.model.now) (listed self.now.codes.now) place code) pen.old pen.new }
     {
         for action in 0..self.model.actions() {
             self.write_cell(place, code, action, pen);
@@ -70,7 +62,7 @@ impl<M: SiteModel> Listing<'_, '_, M> {
 
     // All actions in all listed states.
     pub(crate) fn write_cells(&self, pen: &mut Pen)
-        ensures { Adds (cell_words (M.SiteModel.meaning self.now.model.now).actions 0 (cells_of (M.SiteModel.meaning self.now.model.now) (listed self.now.codes.now) (listed self.now.codes.now))) pen.old pen.new }
+        ensures { Adds (table_words (M.SiteModel.meaning self.now.model.now) (listed self.now.codes.now)) pen.old pen.new }
     {
         for (place, code) in self.codes.as_slice().iter().enumerate() {
             self.write_state(place as u16, *code, pen);

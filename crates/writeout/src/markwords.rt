@@ -1,50 +1,39 @@
 // The words that say how large a book is and what each state shows.
-ghost use Rattle.std.specs.Prelude.{◌≡◌, ◌+◌, ◌*◌, ◌^◌, ◌<◌, ◌≤◌, [], ◌∷◌, length, map, pos, ◌+ℤ◌, unsigned_abs};
+ghost use Rattle.std.specs.Prelude.{◌≡◌, ◌<◌, ◌≤◌, [], ◌∷◌, map, pos, ◌+ℤ◌, unsigned_abs};
 ghost use Rattle.pen.specs.Laid.{Adds};
 ghost use Rattle.register.specs.Listed.{listed};
-ghost use Rattle.sitelayout.specs.Kinds.{number_of};
 ghost use Rattle.sitelayout.specs.Layout.{mark_words};
-ghost use Rattle.sitelayout.specs.OneWord.{word_of_head, word_of_mask, word_of_reward};
-ghost use Rattle.writeout.specs.Book.{mark_of};
+ghost use Rattle.sitelayout.specs.OneWord.{word_of_reward};
+ghost use Rattle.writeout.specs.Book.{head_words, mark_of};
 
 use crate::listing::Listing;
 use model::SiteModel;
 use pen::Pen;
-use sitelayout::Kind;
-
-// A word of a kind, with its fields below.
-pub(crate) fn word(kind: Kind, fields: u32) -> u32
-    requires { fields < 2 ^ 28 }
-    ensures { result ≡ number_of kind * 2 ^ 28 + fields }
-{
-    ((kind as u32) << 28) + fields
-}
-
-fn mask_word(mask: u32) -> u32
-    requires { mask < 2 ^ 24 }
-    ensures { result ≡ word_of_mask mask }
-{
-    word(Kind::Mask, mask)
-}
+use sitelayout::{Head, Worth, mask_word};
 
 // A reward is raised by 2,000.
 fn reward_word(reward: i32, origin: u64) -> u32
     requires { (unsigned_abs reward ≤ 2000) × (origin < 4096) }
     ensures { result ≡ word_of_reward (unsigned_abs (reward +ℤ pos 2000)) origin }
 {
-    word(Kind::Reward, (reward + 2000) as u32 + origin as u32 * 4096)
+    let worth = Worth {
+        raised: (reward + 2000) as u16,
+        origin: origin as u16,
+    };
+    worth.word()
 }
 
 impl<M: SiteModel> Listing<'_, '_, M> {
     pub(crate) fn write_head(&self, pen: &mut Pen)
-        ensures { Adds (word_of_head (length (listed self.now.codes.now)) (M.SiteModel.meaning self.now.model.now).labels (M.SiteModel.meaning self.now.model.now).actions ∷ []) pen.old pen.new }
+        ensures { Adds (head_words (M.SiteModel.meaning self.now.model.now) (listed self.now.codes.now)) pen.old pen.new }
     {
         let sizes = self.model.sizes();
-        let states = self.codes.len() as u32;
-        pen.put(word(
-            Kind::Head,
-            states + sizes.labels * 8192 + sizes.actions * 262144,
-        ));
+        let head = Head {
+            states: self.codes.len() as u32,
+            labels: sizes.labels,
+            actions: sizes.actions,
+        };
+        pen.put(head.word());
     }
 
     // The mask of a state, then its reward and its ground.

@@ -9,13 +9,12 @@ ghost use Rattle.writeout.specs.Tables.{Faithfully, Leaves, left, out_book, outc
 
 use crate::Written;
 use crate::listing::Listing;
-use crate::markwords::word;
 use model::SiteModel;
 use pen::Pen;
 use reach::search;
 use refusal::Refusal;
 use register::Register;
-use sitelayout::Kind;
+use sitelayout::end_word;
 
 impl<M: SiteModel> Listing<'_, '_, M> {
     // The book of the listed states, with its end word; the number of its words, unless they are too many for the table.
@@ -28,7 +27,7 @@ impl<M: SiteModel> Listing<'_, '_, M> {
         self.write_marks(&mut pen);
         self.write_cells(&mut pen);
         let before = pen.written()?;
-        pen.put(word(Kind::End, before as u32));
+        pen.put(end_word(before as u32));
         pen.written()
     }
 }
@@ -46,9 +45,7 @@ fn attempt<M: SiteModel>(m: &M, codes: &mut [u64], bytes: &mut [u8]) -> Result<W
         model: m,
         codes: &found,
     };
-    let Some(words) = listing.write_book(bytes) else {
-        return Err(Refusal::BookTableShort);
-    };
+    let words = listing.write_book(bytes).ok_or(Refusal::BookTableShort)?;
     Ok(Written {
         states: found.len(),
         words,

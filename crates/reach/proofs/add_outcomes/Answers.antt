@@ -21,17 +21,18 @@ loop-way-preserved c =
       onto_both c.args.codes.now c.loop-way.codes c.list.new.codes inv.2 told.onto,
     )
 
-pub returns-in_err-list-clause-added : goal.returns-in_err-list-clause-added
-returns-in_err-list-clause-added c =
+pub returns-in_err-list : goal.returns-in_err-list
+returns-in_err-list c =
     let os = c.as_slice-way-items.result.now in
     let i = c.loop-way.way-index in
     let d : Outcome = record { target = 0; weight = 0 } in
     let inv = c.loop-way.invariant in
-    let over = added_over c.args.codes.now c.loop-way.codes c.list.new.codes (targets_of (take i os)) ((get_or os i d).target ∷ []) (targets_of (drop (i + 1) os)) c.in_err-list.field-0.0 inv.0 inv.2.room c.in_err-list.ensures.added in
+    let told = c.in_err-list.ensures in
+    let over = added_over c.args.codes.now c.loop-way.codes c.list.new.codes (targets_of (take i os)) ((get_or os i d).target ∷ []) (targets_of (drop (i + 1) os)) c.in_err-list.field-0.0 inv.0 inv.2.room told.added in
     let all = targets_split os i d c.loop-way-test.true in
-    let said : c.from_residual.result ≡ Err c.in_err-list.field-0.0 = search rules in
-    subst (λ answer. Added (targets_of (listed-ways c.args.outcomes.now)) c.args.codes.now c.list.new.codes answer) (sym said)
-    (subst (λ ks. Added ks c.args.codes.now c.list.new.codes (Err c.in_err-list.field-0.0)) (sym all ∙ ap targets_of c.as_slice-way-items.ensures.items) over)
-
-pub returns-in_err-list-clause-onto : goal.returns-in_err-list-clause-onto
-returns-in_err-list-clause-onto c = onto_both c.args.codes.now c.loop-way.codes c.list.new.codes c.loop-way.invariant.2 c.in_err-list.ensures.onto
+    let said : c.from_residual.result ≡ Err c.in_err-list.field-0.0 = search rules in record {
+      added =
+          subst (λ answer. Added (targets_of (listed-ways c.args.outcomes.now)) c.args.codes.now c.list.new.codes answer) (sym said)
+          (subst (λ ks. Added ks c.args.codes.now c.list.new.codes (Err c.in_err-list.field-0.0)) (sym all ∙ ap targets_of c.as_slice-way-items.ensures.items) over);
+      onto = onto_both c.args.codes.now c.loop-way.codes c.list.new.codes inv.2 told.onto;
+    }

@@ -20,8 +20,8 @@ loop-action-preserved g c =
       onto_both c.args.codes.now c.loop-action.codes c.add_outcomes.new.codes inv.2 told.onto,
     )
 
-pub returns-in_err-add_outcomes-clause-added : goal.returns-in_err-add_outcomes-clause-added
-returns-in_err-add_outcomes-clause-added g c =
+pub returns-in_err-add_outcomes : goal.returns-in_err-add_outcomes
+returns-in_err-add_outcomes g c =
     let m = g.M.SiteModel.meaning c.args.m.now in
     let a = c.loop-action.action in
     let inv = c.loop-action.invariant in
@@ -31,8 +31,7 @@ returns-in_err-add_outcomes-clause-added g c =
     (omega (arith, c.actions-action-end.ensures.actions))
     inv.0
     (subst (λ n. room_in n < length (enter_all eqb (listed c.loop-action.codes) (targets_of (m.outcomes c.args.state a)))) inv.2.room told.1) in
-    let said : c.from_residual.result ≡ Err r = search rules in
-    subst (Added (leads_to m c.args.state) c.args.codes.now c.add_outcomes.new.codes) (sym said) (told.0, over)
-
-pub returns-in_err-add_outcomes-clause-onto : goal.returns-in_err-add_outcomes-clause-onto
-returns-in_err-add_outcomes-clause-onto g c = onto_both c.args.codes.now c.loop-action.codes c.add_outcomes.new.codes c.loop-action.invariant.2 c.in_err-add_outcomes.ensures.onto
+    let said : c.from_residual.result ≡ Err r = search rules in record {
+      added = subst (Added (leads_to m c.args.state) c.args.codes.now c.add_outcomes.new.codes) (sym said) (told.0, over);
+      onto = onto_both c.args.codes.now c.loop-action.codes c.add_outcomes.new.codes inv.2 c.in_err-add_outcomes.ensures.onto;
+    }

@@ -1,8 +1,19 @@
-use Rattle.std.proofs.Common.{length, refl, rules}
+use Rattle.std.proofs.Common.{length, refl, rules, arith}
 use Rattle.register.specs.Listed.{listed}
-use Rattle.reach.proofs.Adding.{not_listed}
+use Rattle.reach.proofs.Adding.{listed-length, entered_more, not_listed}
 use Rattle.reach.proofs.list.Goals as goal
 
-pub returns-in_default-clause-added : goal.returns-in_default-clause-added
-returns-in_default-clause-added c =
-    (refl, not_listed (listed c.args.codes.now) (listed c.enter.new.self) (length c.args.codes.now.keys.now) c.args.code c.enter.result c.enter.ensures.answer (λ p e. search rules))
+pub returns-in_default : goal.returns-in_default
+returns-in_default c =
+    let before = c.args.codes.now in
+    let after = c.enter.new.self in
+    let told = c.enter.ensures in
+    let more = entered_more (listed before) (listed after) (length before.keys.now) c.args.code c.enter.result told.answer in record {
+      added = (refl, not_listed (listed before) (listed after) (length before.keys.now) c.args.code c.enter.result told.answer (λ p e. search rules));
+      onto = record {
+        more = omega (arith, more, listed-length before, listed-length after);
+        rest = told.rest;
+        room = told.room;
+        lent = told.lent;
+      };
+    }

@@ -1,4 +1,4 @@
-use Rattle.std.proofs.Common.{◌≡◌, ◌+◌, ◌*◌, ◌/◌, ◌<◌, [], ◌∷◌, map, length, sym, ap, ◌∙◌, subst, rules}
+use Rattle.std.proofs.Common.{◌≡◌, ◌+◌, ◌*◌, ◌/◌, ◌<◌, ◌≤◌, [], ◌∷◌, map, length, sym, ap, ◌∙◌, subst, arith, rules}
 use Rattle.std.proofs.lemmas.Nat.{div-mul-add, mod-mul-add}
 use Rattle.std.proofs.lemmas.List.{length-map}
 use Rattle.register.specs.Listed.{listed}
@@ -23,8 +23,11 @@ returns-then-not-is_empty g c =
     ∙ ap (λ s. word_of_entry s c.args.action (length cell) ∷ move_words cell) (sym (div-mul-add c.args.place m.actions c.args.action c.requires))
     ∙ ap (λ a. word_of_entry (k / m.actions) a (length cell) ∷ move_words cell) (sym (mod-mul-add c.args.place m.actions c.args.action c.requires))
     ∙ sym (cell_said m.actions k cell some) in
+    let law = g.met.M.SiteModel.lawful c.args.self.now.model.now in
+    let few : c.len.result ≤ 8 = omega (arith, size, length-map (m.outcomes c.args.code c.args.action) (move_to codes), law.few c.args.code c.args.action) in
+    let entry : c.word.result ≡ word_of_entry c.args.place c.args.action c.len.result = omega (arith, c.word.ensures, c.ranges.place.fits, c.requires, law.acts.1, few) in
     let head : Adds (word_of_entry c.args.place c.args.action c.len.result ∷ []) c.args.pen.now c.put.new.self =
-    subst (λ w. Adds (w ∷ []) c.args.pen.now c.put.new.self) c.entry_word.ensures c.put.ensures in
+    subst (λ w. Adds (w ∷ []) c.args.pen.now c.put.new.self) entry c.put.ensures in
     let moves : Adds (move_words cell) c.put.new.self c.write_moves.new.pen =
     subst (λ os. Adds (move_words (map (move_to codes) os)) c.put.new.self c.write_moves.new.pen) c.outcomes-outcomes.ensures.outcomes c.write_moves.ensures in
     subst (λ ws. Adds ws c.args.pen.now c.write_moves.new.pen) words

@@ -19,6 +19,6 @@ loop-way-preserved g c =
     let more : move_words (map (move_to codes) (take (i + 1) os)) ≡ move_words (map (move_to codes) (take i os)) ++ (word_of_move (move_to codes (get_or os i d)) ∷ []) =
     ap move_words (map_more (move_to codes) os i d c.loop-way-test.true) ∙ moves-append (map (move_to codes) (take i os)) (move_to codes (get_or os i d) ∷ []) in
     let one : Adds (word_of_move (move_to codes (get_or os i d)) ∷ []) c.loop-way.pen c.put.new.self =
-    subst (λ w. Adds (w ∷ []) c.loop-way.pen c.put.new.self) (c.move_word.ensures ∙ ap (λ t. word_of_move (record { target = t; weight = (get_or os i d).weight })) c.place_of.ensures) c.put.ensures in
+    subst (λ w. Adds (w ∷ []) c.loop-way.pen c.put.new.self) (c.word.ensures ∙ ap (λ t. word_of_move (record { target = t; weight = (get_or os i d).weight })) c.place_of.ensures) c.put.ensures in
     subst (λ ws. Adds ws c.args.pen.now c.put.new.self) (sym more)
     (adds_both (move_words (map (move_to codes) (take i os))) (word_of_move (move_to codes (get_or os i d)) ∷ []) c.args.pen.now c.loop-way.pen c.put.new.self c.loop-way.invariant one)
