@@ -44,6 +44,9 @@ within_parts low high n e =
 pub within_from : (low high n : ℕ) → low ≤ n → n ≤ high → within low high n ≡ true
 within_from low high n h k = and_from (leb low n) (leb n high) (le-leb low n h) (le-leb n high k)
 
+pub same_more : {S : Type 0} {x y : S} → more x ≡ more y → x ≡ y
+same_more e = cc
+
 wrong_is_not_more : {S : Type 0} {r : Refusal} {t : S} → wrong r ≡ more t → ⊥
 wrong_is_not_more e = let z : ◌≡◌ {A = ℕ} 0 1 = cc in omega arith
 
