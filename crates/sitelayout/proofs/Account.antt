@@ -1,6 +1,6 @@
 -- Whatever is accepted is the encoding of the site book that was read: the words read so far are those of the draft. For
 -- others: `Good`, what is known of a draft; `word_kept`, that each word keeps it; `end_word_reads`, that only an end word ends;
--- `whole_book_is` and `book_kept` of the book at the end; `marks-append`, `moves-append` and `cells-append` of words; `total-push`, `padded-length` and the like, and `either_way` of a test on two numbers.
+-- `whole_book_is` and `book_kept` of the book at the end; `marks-append`, `moves-append` and `cells-append` of words; `padded-length` and the like, and `either_way` of a test on two numbers.
 use Rattle.std.proofs.Common.{◌≡◌, ℕ, zero, suc, ◌+◌, ◌-◌, ◌*◌, ◌/◌, ◌%◌, ◌^◌, ◌<◌, ◌≤◌, Bool, true, false, cond, not, ◌&&◌, eqb, ltb, leb, List, [], ◌∷◌, ◌++◌, length, replicate, Some, None, Ok, Err, Option, Result, sym, refl, ap, ◌∙◌, subst, inl, inr, append_assoc, append-nil, zero-add, arith, rules, length-append}
 use lib.ListN.{length-replicate}
 use Rattle.std.proofs.lemmas.Nat.{div-mul-add, mod-mul-add, mul-add-lt}
@@ -85,10 +85,6 @@ cell_words_padded a n cs =
 
 pub padded-length : (n : ℕ) (cs : List (List Move)) → length cs ≤ n → length (padded n cs) ≡ n
 padded-length n cs h = simp (length-append, length-replicate) (omega arith)
-
-pub total-push : (ms : List Move) (m : Move) → total (ms ++ (m ∷ [])) ≡ total ms + m.weight
-total-push [] m = omega arith
-total-push (x ∷ ms) m = omega (arith, total-push ms m)
 
 taken-push : (t : ℕ) (ms : List Move) (m : Move) → taken t ms ≡ false → eqb t m.target ≡ false → taken t (ms ++ (m ∷ [])) ≡ false
 taken-push t [] m h k = or_from (eqb t m.target) false k refl

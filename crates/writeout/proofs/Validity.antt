@@ -3,11 +3,13 @@ use Rattle.std.proofs.Common.{◌≡◌, ℕ, zero, suc, ◌+◌, ◌*◌, ◌^�
 use Rattle.std.specs.List.{ContainsAt as Has, AllByRecursion as All}
 use Rattle.std.proofs.ByRecursion.{has_get_or, all_has_itself}
 use Rattle.std.proofs.lemmas.List.{length-map, get_or-map}
+use Rattle.std.proofs.lemmas.List.Folds.{fold-map}
 use Rattle.std.proofs.lemmas.Int.{ints}
 use Rattle.std.proofs.lemmas.Bool.{cases_Bool, and_from, or_from, or_right, lt-ltb, le-leb, eq-eqb, ne_eqb, not_from_false}
 use Rattle.model.specs.declared.Outcome.{Outcome}
 use Rattle.model.specs.Models as models
 use Rattle.model.specs.Models.{Model, Lawful}
+use Rattle.model.proofs.Laws.{weight_at}
 use Rattle.register.specs.Keys.{place_of}
 use Rattle.words.specs.Tests.{all, none}
 use Rattle.words.proofs.Tests.{all_push, all_append, all_below_from, within_from}
@@ -40,13 +42,7 @@ raised_small : (r : ℤ) → nat_abs r ≤ 2000 → nat_abs (r +ℤ pos 2000) �
 raised_small r h = omega (arith, ints)
 
 total_moves : (codes : List ℕ) (os : List Outcome) → total (map (move_to codes) os) ≡ models.total os
-total_moves codes [] = refl
-total_moves codes (o ∷ os) = ap (λ n. o.weight + n) (total_moves codes os)
-
-weight_of_total : (os : List Outcome) (j : ℕ) (d : Outcome) → j < length os → (get_or os j d).weight ≤ models.total os
-weight_of_total [] j d h = absurd (omega arith)
-weight_of_total (o ∷ os) zero d h = omega arith
-weight_of_total (o ∷ os) (suc j) d h = omega (arith, weight_of_total os j d (omega arith))
+total_moves codes os = fold-map (λ n m. n + m.weight) (move_to codes) 0 os
 
 pub some_cell : (codes : List ℕ) (os : List Outcome) → 1 ≤ length os → not (none (map (move_to codes) os)) ≡ true
 some_cell codes [] h = absurd (omega arith)
@@ -76,7 +72,7 @@ module _ (m : Model) (law : Lawful m) (codes : List ℕ) (from : Closed m codes)
         let o = get_or (m.outcomes c a) j stay in
         and_from _ _
         (lt-ltb (place_of eqb o.target codes) (length codes) (place_below codes o.target (from.targets c a j stay has h)))
-        (within_from 1 8 o.weight (law.weighed c a j stay h) (omega (arith, weight_of_total (m.outcomes c a) j stay h, law.whole c a off)))
+        (within_from 1 8 o.weight (law.weighed c a j stay h) (omega (arith, weight_at (m.outcomes c a) j stay h, law.whole c a off)))
 
     moves_good : all (good_move (length codes)) (cell_of m codes c a) ≡ true
     moves_good =
