@@ -1,5 +1,5 @@
 -- The book that is written out of listed states is valid: `book_valid`. For others too: `some_cell`, a cell of outcomes is not empty.
-use Rattle.std.proofs.Common.{◌≡◌, ℕ, zero, suc, ◌+◌, ◌*◌, ◌^◌, ◌<◌, ◌≤◌, Bool, true, false, not, eqb, List, [], ◌∷◌, map, length, get_or, ℤ, pos, ◌+ℤ◌, nat_abs, sym, refl, ap, ◌∙◌, ⊎_elim, add-zero, arith}
+use Rattle.std.proofs.Common.{◌≡◌, ℕ, zero, suc, ◌+◌, ◌*◌, ◌^◌, ◌<◌, ◌≤◌, true, false, not, eqb, List, [], ◌∷◌, map, length, get_or, ℤ, pos, ◌+ℤ◌, nat_abs, sym, refl, ap, ◌∙◌, ⊎_elim, add-zero, arith}
 use Rattle.std.specs.List.{ContainsAt as Has, AllByRecursion as All}
 use Rattle.std.proofs.ByRecursion.{has_get_or, all_has_itself}
 use Rattle.std.proofs.lemmas.List.{length-map, get_or-map}
@@ -12,7 +12,7 @@ use Rattle.model.specs.Models.{Model, Lawful}
 use Rattle.model.proofs.Laws.{weight_at}
 use Rattle.register.specs.Keys.{place_of}
 use Rattle.words.specs.Tests.{all, none}
-use Rattle.words.proofs.Tests.{all_push, all_append, all_below_from, within_from}
+use Rattle.words.proofs.Tests.{all_push, all_append, all_from, all_below_from, within_from}
 use Rattle.sitelayout.specs.declared.Move.{Move}
 use Rattle.sitelayout.specs.Site.{taken, apart, total, good_mark, good_move, good_cell, valid}
 use Rattle.writeout.specs.Book.{mark_of, move_to, cell_of, cells_below, cells_of, book_of}
@@ -20,10 +20,6 @@ use Rattle.writeout.proofs.Closed.{Closed, place_below, place_one}
 use Rattle.writeout.proofs.Cells.{length-cells, cell_copied}
 
 -- tests of lists, from their places
-
-all_from : {X : Type 0} (P : X → Bool) (xs : List X) (d : X) → ((i : ℕ) → i < length xs → P (get_or xs i d) ≡ true) → all P xs ≡ true
-all_from P [] d h = refl
-all_from P (x ∷ xs) d h = and_from (P x) (all P xs) (h 0 (omega arith)) (all_from P xs d (λ i l. h (suc i) (omega arith)))
 
 not_taken : (t : ℕ) (ms : List Move) (d : Move) → ((k : ℕ) → k < length ms → t ≡ (get_or ms k d).target → ⊥) → taken t ms ≡ false
 not_taken t [] d h = refl
