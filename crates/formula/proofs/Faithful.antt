@@ -6,14 +6,13 @@ use Rattle.std.proofs.lemmas.List.{append_assoc, length_push, get_or_append_left
 use Rattle.std.proofs.lemmas.Bool.{and_parts, ltb-true, lt-ltb, cases_lt}
 use Rattle.register.specs.Keys.{Decides, Kept, place_of, enter}
 use Rattle.register.proofs.Keys.{place_of_at, place_of_before, enter_both}
-use Rattle.register.proofs.Steps.{kept_none}
+use Rattle.register.proofs.Steps.{kept_none, kept_there, kept_new}
 use Rattle.formula.specs.declared.Node.{Node}
 use Rattle.formula.specs.declared.Node.TheVariants.{Label, True, Not, And, Or, Previous, Since, Always, Once}
 use Rattle.formula.specs.Formulas.{Formula, truth, tree_of, formulas, operands_below, earlier_from, earlier}
 use Rattle.formula.specs.Merging.{same_node, renumbered, SoFar, merge_one, merge_from, Faithful}
 use Rattle.formula.proofs.Trees.{formulas-push, length-formulas, formulas_at, operands_below_more, earlier_at, earlier-push}
 use Rattle.formula.proofs.Apart.{tree_of_apart}
-use Rattle.formula.proofs.KeptTrees.{kept_there, kept_new}
 
 pub same_node_decides : Decides same_node
 same_node_decides = search rules

@@ -1,7 +1,6 @@
 pub mod Examples
 pub mod Trees
 pub mod Apart
-pub mod KeptTrees
 pub mod Faithful
 pub mod Marks
 pub mod Chosen

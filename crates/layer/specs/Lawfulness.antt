@@ -1,9 +1,10 @@
 -- A layer on a lawful model is lawful: `layered_lawful` where the book fits, and `over_lawful` for a book that fits or not, or none.
-use Rattle.std.specs.Prelude.{◌≡◌, ℕ, ◌+◌, ◌*◌, ◌^◌, ◌<◌, ◌≤◌, Bool, true, false, ◌&&◌, ltb, List, [], ◌∷◌, map, length, get_or, pos, IfSome, Some, None, Option, nat_le, nat_lt, slice_index_or, unsigned_abs, refl}
+use Rattle.std.specs.Prelude.{◌≡◌, ℕ, ◌+◌, ◌*◌, ◌^◌, ◌<◌, ◌≤◌, Bool, true, false, ◌&&◌, ltb, List, [], map, length, get_or, pos, IfSome, Some, None, Option, nat_le, nat_lt, slice_index_or, unsigned_abs}
 use Rattle.std.proofs.Common.{inl, inr, sym, ap, ◌∙◌, add-zero, lt_of_lt_of_le, arith, pow_mono}
 use Rattle.std.specs.Option.{option_map}
 use Rattle.std.proofs.lemmas.Nat.{pow_pos}
 use Rattle.std.proofs.lemmas.List.{get_or-map, length-map}
+use Rattle.std.proofs.lemmas.List.Folds.{fold-map}
 use Rattle.std.proofs.lemmas.Bool.{cases_Bool, both_ways, and_parts, and_from, and_cases, leb-true, ltb-true, lt-ltb, cond-true, cond-false, cond_both}
 use Rattle.model.specs.declared.Outcome.{Outcome}
 use Rattle.model.specs.Models.{Model, Lawful, total}
@@ -43,8 +44,7 @@ pub memory_packed : (t k : ℕ) → k < 65536 → memory (t * 65536 + k) ≡ k
 memory_packed t k h = omega arith
 
 total_lifted : (m : Model) (b : Book) (s : ℕ) (os : List Outcome) → total (map (lifted m b s) os) ≡ total os
-total_lifted m b s [] = refl
-total_lifted m b s (o ∷ os) = ap (λ n. o.weight + n) (total_lifted m b s os)
+total_lifted m b s os = fold-map (λ n o. n + o.weight) (lifted m b s) 0 os
 
 nowhere : Outcome
 nowhere = record { target = 0; weight = 0 }

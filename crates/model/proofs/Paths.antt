@@ -1,16 +1,23 @@
--- Where a model unfolds a ground model, each history of the ground model has just one history above it.
+-- A history stands at a state. Where a model unfolds a ground model, each history of the ground model has just one history above it.
 use Rattle.std.proofs.Common.{◌≡◌, ℕ, ◌-◌, ◌<◌, true, List, [], ◌∷◌, ◌++◌, map, length, get_or, ℤ, sym, refl, ap, ◌∙◌, subst, append_assoc, arith}
 use Rattle.std.specs.List.{ContainsAt as Has}
 use Rattle.std.proofs.ByRecursion.{has_get_or}
 use Rattle.std.proofs.lemmas.List.{length_push, get_or_push, length-map, get_or-map, map-append}
 use Rattle.model.specs.declared.Outcome.{Outcome}
-use Rattle.model.specs.Models.{Model}
+use Rattle.model.specs.Models.{Model, Lawful}
 use Rattle.model.specs.Histories.{final, targets_of, History, begun, onward, along, Unfolds, grounds, OnePathAbove}
+use Rattle.model.proofs.Laws.{target_state}
 
 pub final-push : (h : List ℕ) (t : ℕ) → final (h ++ (t ∷ [])) ≡ t
 final-push h t =
     let last : length (h ++ (t ∷ [])) - 1 ≡ length h = omega (arith, length_push h t) in
     ap (λ k. get_or (h ++ (t ∷ [])) k 0) last ∙ get_or_push h t 0 (length h) refl
+
+-- a history stands at a state
+pub history_state : (m : Model) → Lawful m → (h : List ℕ) → History m h → m.state (final h) ≡ true
+history_state m law h begun = law.starts
+history_state m law h (onward {h = before} a t hist off has) =
+    ap m.state (final-push before t) ∙ target_state m law (final before) a t has
 
 -- a target of mapped outcomes is the image of a target
 has_image : (f : ℕ → ℕ) (os ps : List Outcome) (t : ℕ) → targets_of ps ≡ map f (targets_of os) → Has (targets_of ps) t → (u : ℕ) × (Has (targets_of os) u × (f u ≡ t))

@@ -1,7 +1,7 @@
 -- What a site model means: a Markov decision process with labels, its chances counted in eighths.
 -- A model has an answer for every number; one that is no state has mask, reward and site 0 and offers nothing.
 -- `Lawful` has the laws of every site model, `Ground` those of a ground model and `NumberedBy` those of a numbered one.
-use Rattle.std.specs.Prelude.{◌≡◌, ℕ, ◌+◌, ◌^◌, ◌<◌, ◌≤◌, Bool, true, false, List, [], ◌∷◌, length, ℤ, pos, Option, nat_lt, slice_index_or, unsigned_abs}
+use Rattle.std.specs.Prelude.{◌≡◌, ℕ, ◌^◌, ◌<◌, ◌≤◌, Bool, true, false, List, [], length, ℤ, pos, Option, nat_lt, slice_index_or, sum_by, unsigned_abs}
 use Rattle.std.specs.Option.{option_map}
 use Rattle.std.specs.List.{slice_get}
 use Rattle.model.specs.declared.Outcome.{Outcome}
@@ -23,8 +23,7 @@ pub record Model : Type 0 where
 
 -- the weights together
 abbrev pub total : List Outcome → ℕ
-total [] = 0
-total (o ∷ os) = o.weight + total os
+total os = sum_by (λ o. o.weight) os
 
 -- the target of outcome j of an action in a state, none where there is no such outcome
 abbrev pub target_at : Model → ℕ → ℕ → ℕ → Option ℕ

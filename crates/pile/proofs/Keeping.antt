@@ -1,10 +1,10 @@
 -- The promise about piles, from the laws of the ground model and the soundness of the books alone.
-use Rattle.std.proofs.Common.{◌≡◌, ℕ, ◌<◌, ◌≤◌, Bool, true, false, cond, List, [], ◌∷◌, map, length, get_or, Some, None, sym, refl, ap, ◌∙◌, subst, arith}
+use Rattle.std.proofs.Common.{◌≡◌, ℕ, ◌≤◌, Bool, true, false, cond, List, [], ◌∷◌, map, length, Some, None, sym, refl, ◌∙◌, subst}
 use Rattle.std.proofs.lemmas.Bool.{and_parts}
-use Rattle.std.proofs.lemmas.List.{length-map, get_or-map, map-id}
+use Rattle.std.proofs.lemmas.List.{map-id}
 use Rattle.formula.specs.Formulas.{earlier}
-use Rattle.model.specs.Histories.{final, History, begun, onward, along, Unfolds}
-use Rattle.model.proofs.Paths.{final-push, one_path_above}
+use Rattle.model.specs.Histories.{final, along, Unfolds}
+use Rattle.model.proofs.Paths.{final-push, history_state, one_path_above}
 use Rattle.model.specs.declared.Outcome.{Outcome}
 use Rattle.model.specs.Models.{Model, Lawful, Ground}
 use Rattle.words.specs.Tests.{all}
@@ -15,14 +15,6 @@ use Rattle.layer.specs.Records.{code_over, mask_over, reward_over, SoundBook}
 use Rattle.layer.proofs.Unfolds.{layer_unfolds}
 use Rattle.pile.specs.Piles.{Floor, piled, Shown, on_ground, with_floor, with_floors, SoundFloor, SoundFloors, shown_on, Keeps}
 
-final_state : (g : Model) → Lawful g → (h : List ℕ) → History g h → g.state (final h) ≡ true
-final_state g law h begun = law.starts
-final_state g law h (onward {h = before} a t hist off (k, l, at)) =
-    let os = g.outcomes (final before) a in
-    let inside : k < length (g.outcomes (final before) a) = omega (arith, length-map (g.outcomes (final before) a) (λ o. o.target)) in
-    let is : (get_or (g.outcomes (final before) a) k (record { target = 0; weight = 0 })).target ≡ t = sym (get_or-map (λ o. o.target) (g.outcomes (final before) a) k (record { target = 0; weight = 0 }) 0 inside) ∙ at 0 in
-    ap g.state (final-push before t ∙ sym is) ∙ law.targets (final before) a k (record { target = 0; weight = 0 }) inside
-
 map_keeps : (h : List ℕ) (os : List Outcome) → map (along final h) os ≡ os
 map_keeps h os = (λ i. map (λ o. record { target = final-push h o.target i; weight = o.weight }) os) ∙ map-id os
 
@@ -30,8 +22,8 @@ map_keeps h os = (λ i. map (λ o. record { target = final-push h o.target i; we
 ground_unfolds : (g : Model) → Lawful g → Ground g → Unfolds g g final (λ h. g.mask (final h)) (λ h. g.reward (final h))
 ground_unfolds g law ground = record {
   first = refl;
-  states = final_state g law;
-  sites = λ h hist. ground.own (final h) (final_state g law h hist);
+  states = history_state g law;
+  sites = λ h hist. ground.own (final h) (history_state g law h hist);
   masks = λ h hist. refl;
   rewards = λ h hist. refl;
   offers = λ h hist a. refl;

@@ -5,9 +5,9 @@ use Rattle.std.proofs.ByRecursion.{All-append, all_has_itself, All-weaker, has_a
 use Rattle.std.proofs.lemmas.List.{get_or-map, length-map}
 use Rattle.std.proofs.lemmas.Bool.{cases_Bool, cases_lt}
 use Rattle.model.specs.declared.Outcome.{Outcome}
-use Rattle.model.specs.Histories.{History, begun, onward, final, targets_of}
+use Rattle.model.specs.Histories.{begun, onward, final, targets_of}
 use Rattle.model.specs.Models.{Model, Lawful}
-use Rattle.model.proofs.Paths.{final-push}
+use Rattle.model.proofs.Paths.{final-push, history_state}
 use Rattle.reach.specs.Reached.{Reached, coming_up}
 use Rattle.reach.specs.Search.{targets_below, leads_to}
 
@@ -66,18 +66,6 @@ pub has_target : (os : List Outcome) (j : ℕ) (d : Outcome) → j < length os �
 has_target os j d l =
     let inside : j < length (targets_of os) = omega (arith, length-map os (λ (o : Outcome). o.target)) in
     subst (Has (targets_of os)) (get_or-map (λ (o : Outcome). o.target) os j d 0 l) (has_get_or (targets_of os) j 0 inside)
-
-target_state : (m : Model) → Lawful m → (s a t : ℕ) → Has (targets_of (m.outcomes s a)) t → m.state t ≡ true
-target_state m law s a t (k, l, at) =
-    let d : Outcome = record { target = 0; weight = 0 } in
-    let inside : k < length (m.outcomes s a) = omega (arith, length-map (m.outcomes s a) (λ (o : Outcome). o.target)) in
-    subst (λ c. m.state c ≡ true) (sym (get_or-map (λ (o : Outcome). o.target) (m.outcomes s a) k d 0 inside) ∙ at 0)
-    (law.targets s a k d inside)
-
-history_state : (m : Model) → Lawful m → (p : List ℕ) → History m p → m.state (final p) ≡ true
-history_state m law p begun = law.starts
-history_state m law p (onward {h = before} a t hist off has) =
-    ap m.state (final-push before t) ∙ target_state m law (final before) a t has
 
 -- a reached code is a state
 pub reached_state : (m : Model) → Lawful m → (c : ℕ) → Reached m c → m.state c ≡ true

@@ -1,5 +1,7 @@
 -- What entering does to a list of keys.
 use Rattle.std.proofs.Common.{◌≡◌, ℕ, zero, suc, ◌+◌, ◌<◌, ◌≤◌, Bool, true, false, cond, List, [], ◌∷◌, ◌++◌, length, get_or, take, sym, refl, ap, ◌∙◌, subst, ⊎_elim, arith}
+use Rattle.std.specs.List.{ContainsAt as Has}
+use Rattle.std.proofs.ByRecursion.{has_get_or}
 use Rattle.register.specs.Keys.{Decides, Distinct, place_of, enter, enter_all}
 use Rattle.std.proofs.lemmas.List.{length_push, get_or_append_left, get_or_push, take_at, take_all, take-take, take_more}
 use Rattle.std.proofs.lemmas.Bool.{cond_both, cond-true, cond-false, both_ways, lt-ltb, le-ltb, cases_lt}
@@ -67,16 +69,27 @@ enter-take eq k ks =
     enter_both eq k ks (λ r. take (length ks) r ≡ ks) (λ _. take_all (length ks) ks (omega arith))
     (λ _. take_at ks (k ∷ []) (length ks) refl)
 
-pub push-distinct : {K : Type 0} (eq : K → K → Bool) → Decides eq → (k : K) (ks : List K) → Distinct ks → place_of eq k ks ≡ length ks → Distinct (ks ++ (k ∷ []))
-push-distinct eq D k ks apart e i j d (l, m) h =
+-- a key with a place among the keys is there,
+pub placed_has : {K : Type 0} (eq : K → K → Bool) → Decides eq → (k : K) (ks : List K) → place_of eq k ks < length ks → Has ks k
+placed_has eq D k ks l = (place_of eq k ks, l, λ d. place_of_at eq D k ks d l)
+
+-- and one with its place past them is not
+pub placed_new : {K : Type 0} (eq : K → K → Bool) → Decides eq → (k : K) (ks : List K) → place_of eq k ks ≡ length ks → Has ks k → ⊥
+placed_new eq D k ks e (i, l, at) = place_of_before eq D k ks i k (omega arith) (at k)
+
+pub new_apart : {K : Type 0} (k : K) (ks : List K) → Distinct ks → (Has ks k → ⊥) → Distinct (ks ++ (k ∷ []))
+new_apart k ks apart new i j d (l, m) e =
     let i-in : i < length ks = omega (arith, length_push ks k) in
     let at_i = get_or_append_left ks (k ∷ []) d i i-in in
     ⊎_elim
-    (λ (j-in : j < length ks). apart i j d (l, j-in) (sym at_i ∙ h ∙ get_or_append_left ks (k ∷ []) d j j-in))
+    (λ (j-in : j < length ks). apart i j d (l, j-in) (sym at_i ∙ e ∙ get_or_append_left ks (k ∷ []) d j j-in))
     (λ (past : length ks ≤ j).
     let last : length ks ≡ j = omega (arith, length_push ks k) in
-    place_of_before eq D k ks i d (omega arith) (sym at_i ∙ h ∙ get_or_push ks k d j last))
+    new (subst (Has ks) (sym at_i ∙ e ∙ get_or_push ks k d j last) (has_get_or ks i d i-in)))
     (cases_lt j (length ks))
+
+pub push-distinct : {K : Type 0} (eq : K → K → Bool) → Decides eq → (k : K) (ks : List K) → Distinct ks → place_of eq k ks ≡ length ks → Distinct (ks ++ (k ∷ []))
+push-distinct eq D k ks apart e = new_apart k ks apart (placed_new eq D k ks e)
 
 pub enter_distinct : {K : Type 0} (eq : K → K → Bool) → Decides eq → (k : K) (ks : List K) → Distinct ks → Distinct (enter eq k ks)
 enter_distinct eq D k ks apart =

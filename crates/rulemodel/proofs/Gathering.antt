@@ -1,6 +1,6 @@
 -- What gathering the landings of an action's effects gives: each target once, in the order of first landing, with the whole
 -- weight that lands there.
-use Rattle.std.proofs.Common.{◌≡◌, ℕ, suc, ◌+◌, ◌<◌, ◌≤◌, Bool, true, false, cond, eqb, ltb, List, [], ◌∷◌, ◌++◌, map, length, get_or, set, sym, refl, ap, ◌∙◌, subst, inl, inr, zero-add, not, position, Some, None, zero, arith}
+use Rattle.std.proofs.Common.{◌≡◌, ℕ, suc, ◌+◌, ◌<◌, ◌≤◌, Bool, true, false, cond, eqb, ltb, List, [], ◌∷◌, ◌++◌, map, length, get_or, set, sym, refl, ap, ◌∙◌, subst, inl, inr, zero-add, not, position, Some, None, arith}
 use Rattle.std.proofs.lemmas.Bool.{and_parts, and_from, cond_both, cond-true, cond-false, cond_below, eqb-true, eqb-false, eq-eqb, ne_eqb, cases_eq, cases_lt, lt-ltb, le-ltb}
 use Rattle.std.proofs.lemmas.Grind.{common_steps}
 use Rattle.std.specs.List.{position_or_len}
@@ -106,8 +106,8 @@ total_added [] t w = omega arith
 total_added (o ∷ os) t w =
     cond_both (eqb t o.target) (heavier o w ∷ os) (o ∷ added os t w)
     (λ (ws : List Outcome). weights ws ≡ weights (o ∷ os) + w)
-    (λ e. omega arith)
-    (λ e. omega (arith, total_added os t w))
+    (λ e. omega (arith, sum_by-cons (λ (x : Outcome). x.weight) o os, sum_by-cons (λ (x : Outcome). x.weight) (heavier o w) os))
+    (λ e. omega (arith, total_added os t w, sum_by-cons (λ (x : Outcome). x.weight) o os, sum_by-cons (λ (x : Outcome). x.weight) o (added os t w)))
 
 pub total_onto : (s : ℕ) (os : List Outcome) (es : List Effect) → weights (landings_onto s os es) ≡ weights os + total es
 total_onto s os [] = omega arith
@@ -179,8 +179,3 @@ added_at os t w i d e =
 
 pub added_new : (os : List Outcome) (t w : ℕ) → position (λ (o : Outcome). eqb t o.target) os ≡ None → added os t w ≡ os ++ (record { target = t; weight = w } ∷ [])
 added_new os t w e = added_last os t w (grind arith)
-
-pub weight_at : (os : List Outcome) (i : ℕ) (d : Outcome) → i < length os → (get_or os i d).weight ≤ weights os
-weight_at [] i d h = absurd (omega arith)
-weight_at (o ∷ os) zero d h = omega arith
-weight_at (o ∷ os) (suc i) d h = omega (arith, weight_at os i d (omega arith))

@@ -8,7 +8,7 @@ use Rattle.words.specs.Words.{kind, first_word}
 use Rattle.words.specs.Format.{Step, wrong, more, ends, onto, got, run, reading}
 use Rattle.words.proofs.Encoding.{stop_is_no_book, whole_of}
 use Rattle.words.proofs.Reading.{after, run_short, turn}
-use Rattle.words.proofs.Tests.{onto_more, check_more}
+use Rattle.words.proofs.Tests.{same_more, onto_more, check_more}
 use Rattle.sitelayout.specs.declared.Entry.{Entry}
 use Rattle.sitelayout.specs.declared.Head.{Head}
 use Rattle.sitelayout.specs.declared.Mark.{Mark}
@@ -19,7 +19,7 @@ use Rattle.sitelayout.specs.OneWord.{entry_in, head_of, mask_of, reward_of, entr
 use Rattle.sitelayout.specs.Site.{Site, taken, total, valid}
 use Rattle.sitelayout.specs.Layout as layout
 use Rattle.sitelayout.specs.Layout.{Draft, fresh, marking, listing, moving, place_of, padded, marked, read_entry, moved, read_move, read_word, whole_book, site_format}
-use Rattle.sitelayout.proofs.Account.{same_more, more_is_no_end, padded-length, Good, word_kept, end_word_reads, whole_book_is, book_kept}
+use Rattle.sitelayout.proofs.Account.{more_is_no_end, padded-length, Good, word_kept, end_word_reads, whole_book_is, book_kept}
 use Rattle.sitelayout.proofs.OneWords.{head_fields, mask_fields, reward_fields, entry_fields, move_fields}
 use Rattle.siteverdict.specs.declared.Counts.{Counts}
 use Rattle.siteverdict.specs.Counting.{bound_of, Counted}

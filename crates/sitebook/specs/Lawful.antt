@@ -3,6 +3,7 @@ use Rattle.std.specs.Prelude.{◌≡◌, ℕ, zero, suc, ◌+◌, ◌-◌, ◌*�
 use Rattle.std.proofs.Common.{sym, ap, subst, ◌∙◌, inl, inr, arith, add-zero}
 use Rattle.std.proofs.lemmas.Nat.{pow_pos}
 use Rattle.std.proofs.lemmas.List.{get_or_past, get_or-map, length-map}
+use Rattle.std.proofs.lemmas.List.Folds.{fold-map}
 use Rattle.std.proofs.lemmas.Bool.{cases_Bool, cases_lt, and_parts, and_from, lt-ltb, ltb-true, ltb-false, true≢false, false≢true, not-true, not-false, cond-true, cond-false, eq-eqb, or_right}
 use Rattle.model.specs.declared.Outcome.{Outcome}
 use Rattle.model.specs.Models as models
@@ -38,8 +39,7 @@ bound_modest labels (m ∷ ms) e =
 
 -- the weights of the outcomes are those of the moves
 total_outcomes : (c : List Move) → models.total (map outcome_of c) ≡ total c
-total_outcomes [] = refl
-total_outcomes (m ∷ c) = ap (λ n. m.weight + n) (total_outcomes c)
+total_outcomes c = fold-map (λ n o. n + o.weight) outcome_of 0 c
 
 some_length : (c : List Move) → not (none c) ≡ true → 1 ≤ length c
 some_length [] e = absurd (false≢true e)

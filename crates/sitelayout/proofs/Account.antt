@@ -1,6 +1,6 @@
 -- Whatever is accepted is the encoding of the site book that was read: the words read so far are those of the draft. For
 -- others: `Good`, what is known of a draft; `word_kept`, that each word keeps it; `end_word_reads`, that only an end word ends;
--- `whole_book_is` and `book_kept` of the book at the end; `total-push`, `padded-length` and the like, and `either_way` of a test on two numbers.
+-- `whole_book_is` and `book_kept` of the book at the end; `marks-append`, `moves-append` and `cells-append` of words; `padded-length` and the like, and `either_way` of a test on two numbers.
 use Rattle.std.proofs.Common.{◌≡◌, ℕ, zero, suc, ◌+◌, ◌-◌, ◌*◌, ◌/◌, ◌%◌, ◌^◌, ◌<◌, ◌≤◌, Bool, true, false, cond, not, ◌&&◌, eqb, ltb, leb, List, [], ◌∷◌, ◌++◌, length, replicate, Some, None, Ok, Err, Option, Result, sym, refl, ap, ◌∙◌, subst, inl, inr, append_assoc, append-nil, zero-add, arith, rules, length-append}
 use lib.ListN.{length-replicate}
 use Rattle.std.proofs.lemmas.Nat.{div-mul-add, mod-mul-add, mul-add-lt}
@@ -11,7 +11,7 @@ use Rattle.refusal.specs.declared.Refusal.TheVariants.{WrongTotal, NotRising, No
 use Rattle.words.specs.Words.{kind}
 use Rattle.words.specs.Format.{more, ends, onto}
 use Rattle.words.specs.Tests.{all, within, none}
-use Rattle.words.proofs.Tests.{all_push, all_append, all_replicate, check_more, onto_more, onto_ends, check_ends, within_from}
+use Rattle.words.proofs.Tests.{all_push, all_append, all_replicate, same_more, check_more, onto_more, onto_ends, check_ends, within_from}
 use Rattle.sitelayout.specs.declared.Entry.{Entry}
 use Rattle.sitelayout.specs.declared.Head.{Head}
 use Rattle.sitelayout.specs.declared.Mark.{Mark}
@@ -53,51 +53,38 @@ Good (moving h ms cs mv due) =
     GoodMarks h ms × ((length ms ≡ h.states) × ((all (good_cell h.states) cs ≡ true) × ((length cs < h.states * h.actions)
     × ((all (good_move h.states) mv ≡ true) × ((apart mv ≡ true) × (length mv + suc due ≤ 8))))))
 
--- one more at the end
+-- the words of one list and then another
 
-mark_words_push : (ms : List Mark) (m : Mark) → mark_words (ms ++ (m ∷ [])) ≡ (mark_words ms ++ (word_of_mask m.mask ∷ [])) ++ (word_of_reward m.worth.raised m.worth.origin ∷ [])
-mark_words_push [] m = refl
-mark_words_push (x ∷ ms) m = ap (λ l. word_of_mask x.mask ∷ (word_of_reward x.worth.raised x.worth.origin ∷ l)) (mark_words_push ms m)
+pub marks-append : (xs ys : List Mark) → mark_words (xs ++ ys) ≡ mark_words xs ++ mark_words ys
+marks-append [] ys = refl
+marks-append (x ∷ xs) ys = ap (λ l. word_of_mask x.mask ∷ (word_of_reward x.worth.raised x.worth.origin ∷ l)) (marks-append xs ys)
 
-move_words_push : (ms : List Move) (m : Move) → move_words (ms ++ (m ∷ [])) ≡ move_words ms ++ (word_of_move m ∷ [])
-move_words_push [] m = refl
-move_words_push (x ∷ ms) m = ap (λ l. word_of_move x ∷ l) (move_words_push ms m)
+pub moves-append : (xs ys : List Move) → move_words (xs ++ ys) ≡ move_words xs ++ move_words ys
+moves-append [] ys = refl
+moves-append (x ∷ xs) ys = ap (λ l. word_of_move x ∷ l) (moves-append xs ys)
 
-cell_words_push : (a k : ℕ) (cs : List (List Move)) (c : List Move) → cell_words a k (cs ++ (c ∷ [])) ≡ cell_words a k cs ++ cell_word a (k + length cs) c
-cell_words_push a k [] c =
+pub cells-append : (a k : ℕ) (cs ds : List (List Move)) → cell_words a k (cs ++ ds) ≡ cell_words a k cs ++ cell_words a (k + length cs) ds
+cells-append a k [] ds =
     let same : k + 0 ≡ k = omega arith in
-    append-nil (cell_word a k c) ∙ ap (λ n. cell_word a n c) (sym same)
-cell_words_push a k (x ∷ cs) c =
+    ap (λ n. cell_words a n ds) (sym same)
+cells-append a k (x ∷ cs) ds =
     let same : k + 1 + length cs ≡ k + suc (length cs) = omega arith in
-    ap (λ l. cell_word a k x ++ l) (cell_words_push a (k + 1) cs c ∙ ap (λ n. cell_words a (k + 1) cs ++ cell_word a n c) same)
-    ∙ sym (append_assoc (cell_word a k x) (cell_words a (k + 1) cs) (cell_word a (k + suc (length cs)) c))
+    ap (λ l. cell_word a k x ++ l) (cells-append a (k + 1) cs ds ∙ ap (λ n. cell_words a (k + 1) cs ++ cell_words a n ds) same)
+    ∙ sym (append_assoc (cell_word a k x) (cell_words a (k + 1) cs) (cell_words a (k + suc (length cs)) ds))
 
 cell_words_none : (a k n : ℕ) → cell_words a k (replicate n []) ≡ []
 cell_words_none a k zero = refl
 cell_words_none a k (suc n) = cell_words_none a (k + 1) n
 
-cell_words_append : (a k : ℕ) (cs ds : List (List Move)) → cell_words a k (cs ++ ds) ≡ cell_words a k cs ++ cell_words a (k + length cs) ds
-cell_words_append a k [] ds =
-    let same : k + 0 ≡ k = omega arith in
-    ap (λ n. cell_words a n ds) (sym same)
-cell_words_append a k (x ∷ cs) ds =
-    let same : k + 1 + length cs ≡ k + suc (length cs) = omega arith in
-    ap (λ l. cell_word a k x ++ l) (cell_words_append a (k + 1) cs ds ∙ ap (λ n. cell_words a (k + 1) cs ++ cell_words a n ds) same)
-    ∙ sym (append_assoc (cell_word a k x) (cell_words a (k + 1) cs) (cell_words a (k + suc (length cs)) ds))
-
 -- filling up writes nothing
 pub cell_words_padded : (a n : ℕ) (cs : List (List Move)) → cell_words a 0 (padded n cs) ≡ cell_words a 0 cs
 cell_words_padded a n cs =
-    cell_words_append a 0 cs (replicate (n - length cs) [])
+    cells-append a 0 cs (replicate (n - length cs) [])
     ∙ ap (λ l. cell_words a 0 cs ++ l) (cell_words_none a (0 + length cs) (n - length cs))
     ∙ append-nil (cell_words a 0 cs)
 
 pub padded-length : (n : ℕ) (cs : List (List Move)) → length cs ≤ n → length (padded n cs) ≡ n
 padded-length n cs h = simp (length-append, length-replicate) (omega arith)
-
-pub total-push : (ms : List Move) (m : Move) → total (ms ++ (m ∷ [])) ≡ total ms + m.weight
-total-push [] m = omega arith
-total-push (x ∷ ms) m = omega (arith, total-push ms m)
 
 taken-push : (t : ℕ) (ms : List Move) (m : Move) → taken t ms ≡ false → eqb t m.target ≡ false → taken t (ms ++ (m ∷ [])) ≡ false
 taken-push t [] m h k = or_from (eqb t m.target) false k refl
@@ -123,9 +110,6 @@ apart-push (x ∷ ms) m h k =
 
 -- one word more
 
-pub same_more : {x y : Draft} → more x ≡ more y → x ≡ y
-same_more e = cc
-
 pub more_is_no_end : {t : Draft} → more t ≡ ends → ⊥
 more_is_no_end e = search rules
 
@@ -141,7 +125,7 @@ mark_next h ms m w r g said =
     let each = all_push (good_mark h.labels) ms (record { mask = m; worth = r }) g.0.1 one in
     let long = length_push ms (record { mask = m; worth = r }) in
     let line : head_words h ∷ mark_words (ms ++ (record { mask = m; worth = r } ∷ [])) ≡ head_words h ∷ ((mark_words ms ++ (word_of_mask m ∷ [])) ++ (w ∷ [])) =
-    ap (λ l. head_words h ∷ l) (mark_words_push ms (record { mask = m; worth = r }) ∙ ap (λ v. (mark_words ms ++ (word_of_mask m ∷ [])) ++ (v ∷ [])) (sym told.0)) in
+    ap (λ l. head_words h ∷ l) (marks-append ms (record { mask = m; worth = r } ∷ []) ∙ ap (λ v. mark_words ms ++ (word_of_mask m ∷ (v ∷ []))) (sym told.0) ∙ sym (append_assoc (mark_words ms) (word_of_mask m ∷ []) (w ∷ []))) in
     elim (cases_Bool (ltb (length (ms ++ (record { mask = m; worth = r } ∷ []))) h.states)) [
       | inl t ↦ subst (λ b. Next (marking h ms (Some m)) w (cond b (marking h (ms ++ (record { mask = m; worth = r } ∷ [])) None) (listing h (ms ++ (record { mask = m; worth = r } ∷ [])) []))) (sym t)
           (((g.0.0, each), (ltb-true _ _ t, tt)), line)
@@ -176,7 +160,7 @@ entry_next h ms cs w e g said rising =
 cell_word_push : (a k : ℕ) (mv : List Move) (m : Move) → cell_word a k (mv ++ (m ∷ [])) ≡ word_of_entry (k / a) (k % a) (length mv + 1) ∷ (move_words mv ++ (word_of_move m ∷ []))
 cell_word_push a k mv m =
     let opens : (l : List Move) → cell_word a k (l ++ (m ∷ [])) ≡ word_of_entry (k / a) (k % a) (length (l ++ (m ∷ []))) ∷ move_words (l ++ (m ∷ [])) = λ l. elim l as (λ l. cell_word a k (l ++ (m ∷ [])) ≡ word_of_entry (k / a) (k % a) (length (l ++ (m ∷ []))) ∷ move_words (l ++ (m ∷ []))) [ [] ↦ refl | x ∷ xs ↦ refl ] in
-    opens mv ∙ (λ i. word_of_entry (k / a) (k % a) (length_push mv m i) ∷ move_words_push mv m i)
+    opens mv ∙ (λ i. word_of_entry (k / a) (k % a) (length_push mv m i) ∷ moves-append mv (m ∷ []) i)
 
 pub pushed_some : (mv : List Move) (m : Move) → none (mv ++ (m ∷ [])) ≡ false
 pushed_some [] m = refl
@@ -203,8 +187,8 @@ move_next h ms cs mv zero w m t g said free e =
     (and_from (all (good_move h.states) (mv ++ (m ∷ []))) (apart (mv ++ (m ∷ [])) && eqb (total (mv ++ (m ∷ []))) 8) each
     (and_from (apart (mv ++ (m ∷ []))) (eqb (total (mv ++ (m ∷ []))) 8) (apart-push mv m g.1.1.1.1.1.0 free) eight.0))) in
     let line : written (listing h ms (cs ++ ((mv ++ (m ∷ [])) ∷ []))) ≡ written (moving h ms cs mv zero) ++ (w ∷ []) =
-    ap (λ l. head_words h ∷ (mark_words ms ++ l)) (cell_words_push h.actions 0 cs (mv ++ (m ∷ []))
-    ∙ ap (λ l. cell_words h.actions 0 cs ++ l) (ap (λ k. cell_word h.actions k (mv ++ (m ∷ []))) (zero-add (length cs)) ∙ cell_word_push h.actions (length cs) mv m ∙ ap (λ v. open_word h (length cs) (length mv + 1) ∷ (move_words mv ++ (v ∷ []))) (sym told.0)))
+    ap (λ l. head_words h ∷ (mark_words ms ++ l)) (cells-append h.actions 0 cs ((mv ++ (m ∷ [])) ∷ [])
+    ∙ ap (λ l. cell_words h.actions 0 cs ++ l) (append-nil (cell_word h.actions (0 + length cs) (mv ++ (m ∷ []))) ∙ ap (λ k. cell_word h.actions k (mv ++ (m ∷ []))) (zero-add (length cs)) ∙ cell_word_push h.actions (length cs) mv m ∙ ap (λ v. open_word h (length cs) (length mv + 1) ∷ (move_words mv ++ (v ∷ []))) (sym told.0)))
     ∙ sym (open_push h ms cs mv zero w) in
     subst (Next (moving h ms cs mv zero) w) (same_more eight.1)
     ((g.0, (g.1.0, (all_push (good_cell h.states) cs (mv ++ (m ∷ [])) g.1.1.0 cell, omega (arith, length_push cs (mv ++ (m ∷ [])), g.1.1.1.0)))), line)
@@ -214,7 +198,7 @@ move_next h ms cs mv (suc due) w m t g said free e =
     let long = length_push mv m in
     let count : length (mv ++ (m ∷ [])) + suc due ≡ length mv + suc (suc due) = omega (arith, long) in
     let line : written (moving h ms cs (mv ++ (m ∷ [])) due) ≡ written (moving h ms cs mv (suc due)) ++ (w ∷ []) =
-    (λ i. head_words h ∷ (mark_words ms ++ (cell_words h.actions 0 cs ++ (open_word h (length cs) (count i) ∷ (move_words_push mv m ∙ ap (λ v. move_words mv ++ (v ∷ [])) (sym told.0)) i))))
+    (λ i. head_words h ∷ (mark_words ms ++ (cell_words h.actions 0 cs ++ (open_word h (length cs) (count i) ∷ (moves-append mv (m ∷ []) ∙ ap (λ v. move_words mv ++ (v ∷ [])) (sym told.0)) i))))
     ∙ sym (open_push h ms cs mv (suc due) w) in
     subst (Next (moving h ms cs mv (suc due)) w) (same_more e)
     ((g.0, (g.1.0, (g.1.1.0, (g.1.1.1.0, (all_push (good_move h.states) mv m g.1.1.1.1.0 one, (apart-push mv m g.1.1.1.1.1.0 free, omega (arith, long, g.1.1.1.1.1.1))))))), line)

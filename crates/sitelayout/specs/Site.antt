@@ -1,6 +1,6 @@
 -- What a site book says: how many labels and actions there are, what it marks each state with, and for each state and action
 -- the outcomes in order, none where the action is not offered. The start is state 0.
-use Rattle.std.specs.Prelude.{ℕ, ◌+◌, ◌*◌, ◌^◌, Bool, true, false, not, ◌&&◌, ◌||◌, List, [], ◌∷◌, length, ◌==◌, nat_le, nat_lt, slice_index_or}
+use Rattle.std.specs.Prelude.{ℕ, ◌*◌, ◌^◌, Bool, true, false, not, ◌&&◌, ◌||◌, List, [], ◌∷◌, length, ◌==◌, nat_le, nat_lt, slice_index_or, sum_by}
 use Rattle.words.specs.Tests.{all, all_below, within, none}
 use Rattle.sitelayout.specs.declared.Mark.{Mark}
 use Rattle.sitelayout.specs.declared.Move.{Move}
@@ -22,8 +22,7 @@ apart [] = true
 apart (m ∷ ms) = not (taken m.target ms) && apart ms
 
 abbrev pub total : List Move → ℕ
-total [] = 0
-total (m ∷ ms) = m.weight + total ms
+total ms = sum_by (λ m. m.weight) ms
 
 abbrev pub good_mark : ℕ → Mark → Bool
 good_mark labels m = nat_lt m.mask (2 ^ labels) && (nat_le m.worth.raised 4000 && nat_lt m.worth.origin 4096)

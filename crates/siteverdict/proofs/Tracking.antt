@@ -2,6 +2,7 @@
 use Rattle.std.proofs.Common.{◌≡◌, ℕ, zero, suc, ◌+◌, ◌-◌, ◌*◌, ◌<◌, ◌≤◌, max, Bool, true, false, cond, not, eqb, List, [], ◌∷◌, ◌++◌, map, length, get_or, replicate, Some, None, Ok, Err, Result, add-zero, ◌||◌, sym, refl, ap, ◌∙◌, subst, lt_of_mul-lt-mul_right, arith}
 use Rattle.std.proofs.lemmas.Bool.{eqb-true, eqb-false, lt-ltb, le-ltb, eq-eqb, le-leb, ne_eqb}
 use Rattle.std.proofs.lemmas.List.{length_push, map_push, get_or_push, get_or_append_left}
+use Rattle.std.proofs.lemmas.List.Sums.{sum_by_push}
 use Rattle.std.specs.List.{list_any}
 use mir.Val.{bool_byte}
 use Rattle.words.specs.Drafts.{Finished}
@@ -19,11 +20,11 @@ use Rattle.sitelayout.specs.declared.Worth.{Worth}
 use Rattle.sitelayout.specs.Site.{taken, total, waits}
 use Rattle.sitelayout.specs.OneWord.{reward_of, entry_of, move_of}
 use Rattle.sitelayout.specs.Layout.{Draft, marking, listing, moving, place_of, padded, marked, read_entry, moved, read_move, read_word, book_of, whole_book}
-use Rattle.sitelayout.proofs.Account.{padded-length, total-push, either_way}
+use Rattle.sitelayout.proofs.Account.{padded-length, either_way}
 use Rattle.siteverdict.specs.declared.Counts.{Counts}
 use Rattle.siteverdict.specs.Counting.{size, Counted}
 use Rattle.siteverdict.specs.Tracking.{Marked, Tabled, Leads}
-use Rattle.siteverdict.proofs.Waiting.{bound-push, moves-append, moves_filled, waits-append, waits_more, none_filled, waits_all}
+use Rattle.siteverdict.proofs.Waiting.{bound-push, moves_filled, waits-append, waits_more, none_filled, waits_all}
 
 -- what a word says that is read well, and what it comes to
 module _ {X Y : Type 0} (At : X → Draft → Type 0) (said : Result Y Refusal) (next : Y → Step Draft) where
@@ -131,7 +132,7 @@ module _ (c : Counts) (n w : ℕ) (ms : List Mark) (cs : List (List Move)) (mv :
     read = of.read;
     bound = of.bound;
     cells = omega (arith, length_push cs mv, of.cells);
-    moves = omega (arith, moves-append cs (mv ∷ []), of.moves);
+    moves = omega (arith, sum_by_push length cs mv, of.moves);
     waiting = waiting;
     next = next;
     within = within;
@@ -174,7 +175,7 @@ pub targets-push : (mv : List Move) (m : Move) (ts us : List ℕ) → map (λ (m
 targets-push mv m ts us same is = map_push (λ (m : Move). m.target) mv m ∙ ap (λ l. l ++ (m.target ∷ [])) same ∙ sym is
 
 pub weight-push : (mv : List Move) (m : Move) (n : ℕ) → total mv ≡ n → total (mv ++ (m ∷ [])) ≡ n + m.weight
-weight-push mv m n same = total-push mv m ∙ ap (λ n. n + m.weight) same
+weight-push mv m n same = sum_by_push (λ (m : Move). m.weight) mv m ∙ ap (λ n. n + m.weight) same
 
 -- the end word
 module _ (c : Counts) (n w : ℕ) (ms : List Mark) (cs : List (List Move)) (of : Tabled c n w ms cs) (d : Draft) (here : d ≡ listing c.head ms cs) where

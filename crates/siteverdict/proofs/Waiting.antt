@@ -2,6 +2,8 @@
 use Rattle.std.proofs.Common.{◌≡◌, ℕ, zero, suc, ◌+◌, ◌-◌, ◌*◌, ◌<◌, ◌≤◌, max, true, not, eqb, List, [], ◌∷◌, ◌++◌, length, get_or, replicate, sym, refl, ap, ◌∙◌, subst, inl, inr, arith}
 use Rattle.std.proofs.lemmas.Bool.{cases_lt, cases_eq, cases_Bool, false≢true, eq-eqb, ne_eqb}
 use Rattle.std.proofs.lemmas.List.{get_or_past, get_or_append_left, get_or-append_right}
+use Rattle.std.proofs.lemmas.List.Folds.{sum_by-replicate}
+use Rattle.std.proofs.lemmas.List.Sums.{sum_by-append}
 use Rattle.words.specs.Tests.{none}
 use Rattle.words.proofs.Tests.{all_below_at, all_below_from}
 use Rattle.sitelayout.specs.declared.Mark.{Mark}
@@ -13,16 +15,8 @@ pub bound-push : (ms : List Mark) (m : Mark) → bound_of (ms ++ (m ∷ [])) ≡
 bound-push [] m = omega arith
 bound-push (x ∷ ms) m = omega (arith, bound-push ms m)
 
-pub moves-append : (cs ds : List (List Move)) → moves_in (cs ++ ds) ≡ moves_in cs + moves_in ds
-moves-append [] ds = omega arith
-moves-append (c ∷ cs) ds = omega (arith, moves-append cs ds)
-
-pub moves_none : (n : ℕ) → moves_in (replicate n []) ≡ 0
-moves_none zero = refl
-moves_none (suc n) = omega (arith, moves_none n)
-
 pub moves_filled : (cs : List (List Move)) (n : ℕ) → moves_in (cs ++ replicate n []) ≡ moves_in cs
-moves_filled cs n = omega (arith, moves-append cs (replicate n []), moves_none n)
+moves_filled cs n = omega (arith, sum_by-append (length {A = Move}) cs (replicate n []), sum_by-replicate (length {A = Move}) n [])
 
 none_there : (n i : ℕ) → get_or (replicate {A = List Move} n []) i [] ≡ []
 none_there zero i = refl

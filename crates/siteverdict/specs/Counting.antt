@@ -1,6 +1,6 @@
 -- What the verdict on a file says: the counts of the book that it is, or the refusal that the reading of it stops at.
 -- The counts are those of its states, labels, actions and outcomes, and the largest size of a reward in it.
-use Rattle.std.specs.Prelude.{◌≡◌, ℕ, ◌+◌, ◌-◌, max, List, [], ◌∷◌, length, Ok, Err, Result}
+use Rattle.std.specs.Prelude.{◌≡◌, ℕ, ◌+◌, ◌-◌, max, List, [], ◌∷◌, length, Ok, Err, Result, sum_by}
 use Rattle.refusal.specs.declared.Fault.{Fault}
 use Rattle.words.specs.Format.{Verdict, got, stop}
 use Rattle.sitelayout.specs.declared.Mark.{Mark}
@@ -19,8 +19,7 @@ bound_of (m ∷ ms) = max (size m.worth.raised) (bound_of ms)
 
 -- how many outcomes there are in all
 abbrev pub moves_in : List (List Move) → ℕ
-moves_in [] = 0
-moves_in (c ∷ cs) = length c + moves_in cs
+moves_in cs = sum_by length cs
 
 pub record Counted (c : Counts) (b : Site) : Type 0 where
   pub states : c.head.states ≡ length b.marks

@@ -12,7 +12,7 @@ use Rattle.words.specs.Format.{more, ends, check, onto, got, reading, file, Fait
 use Rattle.words.specs.Tests.{all, none}
 use Rattle.words.proofs.Reading.{places_right}
 use Rattle.words.proofs.Encoding.{Passes, passes_append, reads_file, only_encodings}
-use Rattle.words.proofs.Tests.{all_push, check_more, onto_more}
+use Rattle.words.proofs.Tests.{all_push, same_more, check_more, onto_more}
 use Rattle.wishlayout.specs.declared.Wish.{Wish}
 use Rattle.wishlayout.specs.OneWord.{node_word, wish_word, node_of}
 use Rattle.wishlayout.specs.Wishes.{Wishes, items_for, good_label, good_wish, valid}
@@ -23,9 +23,6 @@ use Rattle.wishlayout.proofs.OneWords.{node_reads, wish_in_reads, node_kind, nod
 abbrev written : Draft → List ℕ
 written (noding ns) = node_words ns
 written (wishing ns ws) = node_words ns ++ amount_words ws
-
-same_more : {x y : Draft} → more x ≡ more y → x ≡ y
-same_more e = search rules
 
 some_nodes : (ns : List Node) → none ns ≡ false → 1 ≤ length ns
 some_nodes [] e = search rules

@@ -1,30 +1,27 @@
 -- What the tests that the books share come to at each element, and one element on.
 use Rattle.std.proofs.Common.{◌≡◌, ℕ, zero, suc, ◌<◌, ◌≤◌, Bool, true, false, leb, List, [], ◌∷◌, ◌++◌, length, get_or, replicate, Ok, Err, Result, refl, ap, ◌∙◌, inl, inr, arith}
 use Rattle.std.proofs.lemmas.Bool.{and_parts, and_from, leb-true, le-leb, cases_eq}
+use Rattle.std.proofs.lemmas.List.Elements.{All-replicate, All-get_or, All-from_get_or}
+use Rattle.std.proofs.lemmas.List.Folds.{list_all-append}
+use Rattle.std.proofs.lemmas.List.Sums.{AllPass-from_list_all, list_all-from_AllPass}
 use Rattle.refusal.specs.declared.Refusal.{Refusal}
 use Rattle.words.specs.Tests.{all, all_below, within}
 use Rattle.words.specs.Format.{Step, wrong, more, ends, check, require, onto}
 
-pub all_push : {X : Type 0} (P : X → Bool) (xs : List X) (y : X) → all P xs ≡ true → P y ≡ true → all P (xs ++ (y ∷ [])) ≡ true
-all_push P [] y a h = and_from (P y) true h refl
-all_push P (x ∷ xs) y a h =
-    let parts = and_parts (P x) (all P xs) a in
-    and_from (P x) (all P (xs ++ (y ∷ []))) parts.0 (all_push P xs y parts.1 h)
-
 pub all_append : {X : Type 0} (P : X → Bool) (xs ys : List X) → all P xs ≡ true → all P ys ≡ true → all P (xs ++ ys) ≡ true
-all_append P [] ys a h = h
-all_append P (x ∷ xs) ys a h =
-    let parts = and_parts (P x) (all P xs) a in
-    and_from (P x) (all P (xs ++ ys)) parts.0 (all_append P xs ys parts.1 h)
+all_append P xs ys a b = list_all-append P xs ys ∙ and_from (all P xs) (all P ys) a b
+
+pub all_push : {X : Type 0} (P : X → Bool) (xs : List X) (y : X) → all P xs ≡ true → P y ≡ true → all P (xs ++ (y ∷ [])) ≡ true
+all_push P xs y a h = all_append P xs (y ∷ []) a (and_from (P y) true h refl)
 
 pub all_replicate : {X : Type 0} (P : X → Bool) (n : ℕ) (x : X) → P x ≡ true → all P (replicate n x) ≡ true
-all_replicate P zero x h = refl
-all_replicate P (suc n) x h = and_from (P x) (all P (replicate n x)) h (all_replicate P n x h)
+all_replicate P n x h = list_all-from_AllPass P (replicate n x) (All-replicate (λ y. P y ≡ true) n x h)
 
 pub all_at : {X : Type 0} (P : X → Bool) (xs : List X) (i : ℕ) (d : X) → all P xs ≡ true → i < length xs → P (get_or xs i d) ≡ true
-all_at P [] i d a h = absurd (omega arith)
-all_at P (x ∷ xs) zero d a h = (and_parts (P x) (all P xs) a).0
-all_at P (x ∷ xs) (suc i) d a h = all_at P xs i d (and_parts (P x) (all P xs) a).1 (omega arith)
+all_at P xs i d a h = All-get_or (λ x. P x ≡ true) xs i d h (AllPass-from_list_all P xs a)
+
+pub all_from : {X : Type 0} (P : X → Bool) (xs : List X) (d : X) → ((i : ℕ) → i < length xs → P (get_or xs i d) ≡ true) → all P xs ≡ true
+all_from P xs d h = list_all-from_AllPass P xs (All-from_get_or (λ x. P x ≡ true) xs d h)
 
 pub all_below_at : (n : ℕ) (P : ℕ → Bool) (i : ℕ) → all_below n P ≡ true → i < n → P i ≡ true
 all_below_at zero P i a h = absurd (omega arith)
@@ -43,6 +40,9 @@ within_parts low high n e =
 
 pub within_from : (low high n : ℕ) → low ≤ n → n ≤ high → within low high n ≡ true
 within_from low high n h k = and_from (leb low n) (leb n high) (le-leb low n h) (le-leb n high k)
+
+pub same_more : {S : Type 0} {x y : S} → more x ≡ more y → x ≡ y
+same_more e = cc
 
 wrong_is_not_more : {S : Type 0} {r : Refusal} {t : S} → wrong r ≡ more t → ⊥
 wrong_is_not_more e = let z : ◌≡◌ {A = ℕ} 0 1 = cc in omega arith

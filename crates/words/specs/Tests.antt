@@ -1,9 +1,9 @@
 -- Tests that the books share.
 use Rattle.std.specs.Prelude.{ℕ, zero, suc, Bool, true, false, ◌&&◌, List, [], ◌∷◌, nat_le}
+use Rattle.std.specs.List.{list_all}
 
 abbrev pub all : {X : Type 0} → (X → Bool) → List X → Bool
-all P [] = true
-all P (x ∷ xs) = P x && all P xs
+all P xs = list_all P xs
 
 abbrev pub all_below : ℕ → (ℕ → Bool) → Bool
 all_below zero P = true

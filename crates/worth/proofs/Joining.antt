@@ -1,11 +1,11 @@
 -- Joined values: they rise with the values of the targets, and those along a longer history are those of the histories.
--- For others: `joined_raises`, `joined_same`, `joined_along`, `held_raises` and `sum_raises`.
+-- For others: `joined_raises`, `joined_same`, `joined_along` and `sum_raises`.
 use Rattle.std.proofs.Common.{◌≡◌, ℕ, suc, List, [], ◌∷◌, ◌++◌, map, ℤ, ◌+ℤ◌, ◌≤ℤ◌, refl, arith}
 use Rattle.std.specs.List.{ContainsAt as Has}
-use Rattle.std.proofs.lemmas.Int.{ints, clamps}
+use Rattle.std.proofs.lemmas.Int.{ints}
 use Rattle.model.specs.declared.Outcome.{Outcome}
 use Rattle.model.specs.Histories.{targets_of, along}
-use Rattle.weighing.specs.Weighings.{Weigh, LawfulWeigh, held}
+use Rattle.weighing.specs.Weighings.{Weigh, LawfulWeigh}
 use Rattle.worth.specs.Worths.{joined_from}
 
 pub has_first : (t : ℕ) (ts : List ℕ) → Has (t ∷ ts) t
@@ -13,9 +13,6 @@ has_first t ts = (0, omega arith, λ d. refl)
 
 pub has_later : (u : ℕ) (ts : List ℕ) (t : ℕ) → Has ts t → Has (u ∷ ts) t
 has_later u ts t (k, l, at) = (suc k, omega arith, at)
-
-pub held_raises : (x y : ℤ) → x ≤ℤ y → held x ≤ℤ held y
-held_raises x y h = omega (arith, ints, clamps)
 
 pub sum_raises : (c x y : ℤ) → x ≤ℤ y → (c +ℤ x) ≤ℤ (c +ℤ y)
 sum_raises c x y h = omega (arith, ints)

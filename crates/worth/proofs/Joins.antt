@@ -4,6 +4,7 @@ use Rattle.std.proofs.Common.{◌≡◌, ℕ, zero, suc, ◌+◌, ◌*◌, ◌^�
 use native.Mathlib.Nat.{pow-succ', pow-le-pow_right, min-eq_left}
 use Rattle.std.specs.Int.{int_min}
 use Rattle.std.specs.List.{ContainsAt as Has}
+use Rattle.std.proofs.lemmas.List.Sums.{sum_by-cons}
 use Rattle.model.specs.declared.Outcome.{Outcome}
 use Rattle.model.specs.Histories.{targets_of}
 use Rattle.model.specs.Models.{total}
@@ -48,7 +49,8 @@ mean_joined : (values others : ℕ → ℤ) (b : ℕ) → b ≤ 2 ^ 59 → (os :
 mean_joined values others b fits [] x few room each = (refl, omega arith)
 mean_joined values others b fits (o ∷ os) x few room each =
     let here = first_same values others b o os each in
-    let parts : (o.weight + total os) * b ≡ o.weight * b + total os * b = add-mul o.weight (total os) b in
+    let sum : total (o ∷ os) ≡ o.weight + total os = sum_by-cons (λ (o : Outcome). o.weight) o os in
+    let parts : total (o ∷ os) * b ≡ o.weight * b + total os * b = ap (λ n. n * b) sum ∙ add-mul o.weight (total os) b in
     let step = mean_step x (values o.target) (others o.target) o.weight b here.0 here.1 fits (omega arith) (omega arith) in
     let rest = mean_joined values others b fits os (free_mean.join x o.weight (others o.target)) (omega arith) (omega (arith, step.1)) (rest_same values others b o os each) in
     (ap (λ y. joined_from mean values y os) step.0 ∙ rest.0, omega (arith, step.1, rest.1))

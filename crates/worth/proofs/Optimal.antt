@@ -3,20 +3,17 @@
 use Rattle.std.proofs.Common.{◌≡◌, ℕ, zero, suc, ◌+◌, ◌-◌, ◌<◌, true, List, [], ◌∷◌, ◌++◌, length, ℤ, ◌+ℤ◌, ◌≤ℤ◌, Some, sym, refl, ap, ◌∙◌, subst, arith}
 use lib.Signed.{≤ℤ_refl}
 use Rattle.std.proofs.lemmas.List.{length_push}
-use Rattle.std.proofs.lemmas.Int.{ints}
 use Rattle.model.specs.Histories.{final, History, begun, onward, Unfolds}
 use Rattle.model.specs.Models.{Model}
+use Rattle.weighing.specs.Holding.{held_raises, le_through}
 use Rattle.weighing.specs.Weighings.{Weigh, LawfulWeigh, held}
 use Rattle.worth.specs.Worths.{joined, own_part, summed, Pick, pick_at, worth_by, worth_of, action_of}
 use Rattle.worth.specs.Policies.{Policy, LedTo, led_start, led_on, Admissible, earned_after, Best, planned}
 use Rattle.worth.proofs.Picking.{pick_some, pick_told}
-use Rattle.worth.proofs.Joining.{joined_raises, joined_same, joined_along, held_raises, sum_raises}
+use Rattle.worth.proofs.Joining.{joined_raises, joined_same, joined_along, sum_raises}
 
 le_same : (a b c : ℤ) → a ≤ℤ b → b ≡ c → a ≤ℤ c
 le_same a b c h e = subst (λ x. a ≤ℤ x) e h
-
-le_trans : (a b c : ℤ) → a ≤ℤ b → b ≤ℤ c → a ≤ℤ c
-le_trans a b c h k = omega (arith, ints)
 
 module _ (w : Weigh) (discount : ℕ → ℕ) (g m : Model) (code mask : List ℕ → ℕ) (reward : List ℕ → ℤ) (u : Unfolds g m code mask reward) (inside : (s a : ℕ) → m.offered s a ≡ true → a < m.actions) (waiting : (h : List ℕ) → History g h → m.offered (code h) 0 ≡ true) (horizon : ℕ) where
   -- the worth of a state with k slots left, and of the longer histories
@@ -76,7 +73,7 @@ module _ (w : Weigh) (discount : ℕ → ℕ) (g m : Model) (code mask : List �
       joined_raises w law (λ t. earned_after w discount g reward horizon ρ k (h ++ (t ∷ []))) (λ t. worths k (code (h ++ (t ∷ [])))) w.first w.first (g.outcomes (final h) (ρ h)) (≤ℤ_refl w.first)
       (λ t has. nobody_earns law ρ admissible k (h ++ (t ∷ [])) (led_on t led has) (onward (ρ h) t hist offered has) (omega (arith, length_push h t))) in
       let most : joined w (worths k) (m.outcomes (code h) (ρ h)) ≤ℤ best.0.value = told.largest (ρ h) (inside (code h) (ρ h) here) here in
-      let below : joined w (λ t. earned_after w discount g reward horizon ρ k (h ++ (t ∷ []))) (g.outcomes (final h) (ρ h)) ≤ℤ best.0.value = le_trans _ _ _ (le_same _ _ _ later (sym (action_value k h hist (ρ h)))) most in
+      let below : joined w (λ t. earned_after w discount g reward horizon ρ k (h ++ (t ∷ []))) (g.outcomes (final h) (ρ h)) ≤ℤ best.0.value = le_through _ _ _ (le_same _ _ _ later (sym (action_value k h hist (ρ h)))) most in
       le_same _ _ _ (held_raises _ _ (sum_raises (own_part w discount horizon (suc k) (reward h)) _ _ below))
       (ap (λ r. held (own_part w discount horizon (suc k) r +ℤ best.0.value)) (sym (u.rewards h hist)) ∙ ap (summed held (own_part w discount horizon (suc k) (m.reward (code h)))) (sym best.1))
 

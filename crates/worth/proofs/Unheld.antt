@@ -1,11 +1,8 @@
 -- Under mean and under worst no worth is ever held back. For others: `nothing_held_back`.
-use Rattle.std.proofs.Common.{◌≡◌, ℕ, zero, suc, ◌+◌, ◌*◌, ◌^◌, ◌<◌, ◌≤◌, true, length, ℤ, ◌+ℤ◌, nat_abs, Some, sym, ap, ◌∙◌, subst, arith}
+use Rattle.std.proofs.Common.{◌≡◌, ℕ, zero, suc, ◌+◌, ◌*◌, ◌^◌, ◌≤◌, true, ℤ, ◌+ℤ◌, nat_abs, Some, sym, ap, ◌∙◌, subst, arith}
 use native.Mathlib.Nat.{pow-zero}
-use Rattle.std.specs.List.{ContainsAt as Has}
-use Rattle.std.proofs.lemmas.List.{length-map, get_or-map}
-use Rattle.model.specs.declared.Outcome.{Outcome}
-use Rattle.model.specs.Histories.{targets_of}
 use Rattle.model.specs.Models.{Model, Lawful}
+use Rattle.model.proofs.Laws.{target_state}
 use Rattle.weighing.specs.Discounts.{discount_of}
 use Rattle.weighing.specs.Weighings.{Weigh, held, mean, worst, free_mean, free_worst}
 use Rattle.worth.specs.Worths.{joined, own_part, summed, pick_at, worth_by, worth_of}
@@ -13,12 +10,6 @@ use Rattle.worth.specs.Unheld.{NothingHeldBack}
 use Rattle.worth.proofs.Joins.{Frees, mean_size, mean_frees, worst_size, worst_frees}
 use Rattle.worth.proofs.Picking.{pick_some, pick_told, pick_same}
 use Rattle.worth.proofs.Sizes.{abs_sum, held_small, own_size}
-
--- a target is a state
-target_state : (m : Model) → Lawful m → (s a t : ℕ) → Has (targets_of (m.outcomes s a)) t → m.state t ≡ true
-target_state m law s a t (j, l, at) =
-    let inside : j < length (m.outcomes s a) = omega (arith, length-map (m.outcomes s a) (λ (o : Outcome). o.target)) in
-    ap m.state (sym (at 0) ∙ get_or-map (λ (o : Outcome). o.target) (m.outcomes s a) j (record { target = 0; weight = 0 }) 0 inside) ∙ law.targets s a j (record { target = 0; weight = 0 }) inside
 
 module _ (w free : Weigh) (size : ℕ → ℕ) (frees : Frees w free size) (m : Model) (law : Lawful m) (horizon : ℕ) (short : horizon ≤ 12) where
   abbrev holding : ℕ → ℕ → ℤ

@@ -1,16 +1,18 @@
 -- The book that is written out of listed states is valid: `book_valid`. For others too: `some_cell`, a cell of outcomes is not empty.
-use Rattle.std.proofs.Common.{◌≡◌, ℕ, zero, suc, ◌+◌, ◌*◌, ◌^◌, ◌<◌, ◌≤◌, Bool, true, false, not, eqb, List, [], ◌∷◌, map, length, get_or, ℤ, pos, ◌+ℤ◌, nat_abs, sym, refl, ap, ◌∙◌, ⊎_elim, add-zero, arith}
+use Rattle.std.proofs.Common.{◌≡◌, ℕ, zero, suc, ◌+◌, ◌*◌, ◌^◌, ◌<◌, ◌≤◌, true, false, not, eqb, List, [], ◌∷◌, map, length, get_or, ℤ, pos, ◌+ℤ◌, nat_abs, sym, refl, ap, ◌∙◌, ⊎_elim, add-zero, arith}
 use Rattle.std.specs.List.{ContainsAt as Has, AllByRecursion as All}
 use Rattle.std.proofs.ByRecursion.{has_get_or, all_has_itself}
 use Rattle.std.proofs.lemmas.List.{length-map, get_or-map}
+use Rattle.std.proofs.lemmas.List.Folds.{fold-map}
 use Rattle.std.proofs.lemmas.Int.{ints}
 use Rattle.std.proofs.lemmas.Bool.{cases_Bool, and_from, or_from, or_right, lt-ltb, le-leb, eq-eqb, ne_eqb, not_from_false}
 use Rattle.model.specs.declared.Outcome.{Outcome}
 use Rattle.model.specs.Models as models
 use Rattle.model.specs.Models.{Model, Lawful}
+use Rattle.model.proofs.Laws.{weight_at}
 use Rattle.register.specs.Keys.{place_of}
 use Rattle.words.specs.Tests.{all, none}
-use Rattle.words.proofs.Tests.{all_push, all_append, all_below_from, within_from}
+use Rattle.words.proofs.Tests.{all_push, all_append, all_from, all_below_from, within_from}
 use Rattle.sitelayout.specs.declared.Move.{Move}
 use Rattle.sitelayout.specs.Site.{taken, apart, total, good_mark, good_move, good_cell, valid}
 use Rattle.writeout.specs.Book.{mark_of, move_to, cell_of, cells_below, cells_of, book_of}
@@ -18,10 +20,6 @@ use Rattle.writeout.proofs.Closed.{Closed, place_below, place_one}
 use Rattle.writeout.proofs.Cells.{length-cells, cell_copied}
 
 -- tests of lists, from their places
-
-all_from : {X : Type 0} (P : X → Bool) (xs : List X) (d : X) → ((i : ℕ) → i < length xs → P (get_or xs i d) ≡ true) → all P xs ≡ true
-all_from P [] d h = refl
-all_from P (x ∷ xs) d h = and_from (P x) (all P xs) (h 0 (omega arith)) (all_from P xs d (λ i l. h (suc i) (omega arith)))
 
 not_taken : (t : ℕ) (ms : List Move) (d : Move) → ((k : ℕ) → k < length ms → t ≡ (get_or ms k d).target → ⊥) → taken t ms ≡ false
 not_taken t [] d h = refl
@@ -40,13 +38,7 @@ raised_small : (r : ℤ) → nat_abs r ≤ 2000 → nat_abs (r +ℤ pos 2000) �
 raised_small r h = omega (arith, ints)
 
 total_moves : (codes : List ℕ) (os : List Outcome) → total (map (move_to codes) os) ≡ models.total os
-total_moves codes [] = refl
-total_moves codes (o ∷ os) = ap (λ n. o.weight + n) (total_moves codes os)
-
-weight_of_total : (os : List Outcome) (j : ℕ) (d : Outcome) → j < length os → (get_or os j d).weight ≤ models.total os
-weight_of_total [] j d h = absurd (omega arith)
-weight_of_total (o ∷ os) zero d h = omega arith
-weight_of_total (o ∷ os) (suc j) d h = omega (arith, weight_of_total os j d (omega arith))
+total_moves codes os = fold-map (λ n m. n + m.weight) (move_to codes) 0 os
 
 pub some_cell : (codes : List ℕ) (os : List Outcome) → 1 ≤ length os → not (none (map (move_to codes) os)) ≡ true
 some_cell codes [] h = absurd (omega arith)
@@ -76,7 +68,7 @@ module _ (m : Model) (law : Lawful m) (codes : List ℕ) (from : Closed m codes)
         let o = get_or (m.outcomes c a) j stay in
         and_from _ _
         (lt-ltb (place_of eqb o.target codes) (length codes) (place_below codes o.target (from.targets c a j stay has h)))
-        (within_from 1 8 o.weight (law.weighed c a j stay h) (omega (arith, weight_of_total (m.outcomes c a) j stay h, law.whole c a off)))
+        (within_from 1 8 o.weight (law.weighed c a j stay h) (omega (arith, weight_at (m.outcomes c a) j stay h, law.whole c a off)))
 
     moves_good : all (good_move (length codes)) (cell_of m codes c a) ≡ true
     moves_good =

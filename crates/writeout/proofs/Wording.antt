@@ -2,27 +2,12 @@
 use Rattle.std.proofs.Common.{◌≡◌, ℕ, zero, suc, ◌+◌, ◌*◌, ◌/◌, ◌%◌, ◌^◌, ◌<◌, ◌≤◌, List, [], ◌∷◌, ◌++◌, map, length, sym, refl, ap, ◌∙◌, append_assoc, append-nil, arith}
 use Rattle.std.proofs.lemmas.List.{length-append, length-map, length_push}
 use Rattle.model.specs.Models.{Model, Lawful}
-use Rattle.sitelayout.specs.declared.Mark.{Mark}
 use Rattle.sitelayout.specs.declared.Move.{Move}
 use Rattle.sitelayout.specs.Layout.{mark_words, move_words, cell_word, cell_words, site_words}
-use Rattle.sitelayout.specs.OneWord.{word_of_mask, word_of_reward, word_of_entry, word_of_move}
+use Rattle.sitelayout.specs.OneWord.{word_of_entry}
+use Rattle.sitelayout.proofs.Account.{cells-append}
 use Rattle.sitelayout.proofs.Way.{length-marks, length-moves}
 use Rattle.writeout.specs.Book.{mark_of, move_to, cell_of, cells_below, cells_of, book_of}
-
-pub marks-append : (xs ys : List Mark) → mark_words (xs ++ ys) ≡ mark_words xs ++ mark_words ys
-marks-append [] ys = refl
-marks-append (x ∷ xs) ys = ap (λ l. word_of_mask x.mask ∷ (word_of_reward x.worth.raised x.worth.origin ∷ l)) (marks-append xs ys)
-
-pub moves-append : (xs ys : List Move) → move_words (xs ++ ys) ≡ move_words xs ++ move_words ys
-moves-append [] ys = refl
-moves-append (x ∷ xs) ys = ap (λ l. word_of_move x ∷ l) (moves-append xs ys)
-
-pub cells-append : (actions k : ℕ) (xs ys : List (List Move)) → cell_words actions k (xs ++ ys) ≡ cell_words actions k xs ++ cell_words actions (k + length xs) ys
-cells-append actions k [] ys = let same : k ≡ k + 0 = omega arith in ap (λ j. cell_words actions j ys) same
-cells-append actions k (x ∷ xs) ys =
-    let on : k + 1 + length xs ≡ k + suc (length xs) = omega arith in
-    ap (λ l. cell_word actions k x ++ l) (cells-append actions (k + 1) xs ys ∙ ap (λ j. cell_words actions (k + 1) xs ++ cell_words actions j ys) on)
-    ∙ sym (append_assoc (cell_word actions k x) (cell_words actions (k + 1) xs) (cell_words actions (k + suc (length xs)) ys))
 
 -- an action that is offered
 pub cell_said : (actions k : ℕ) (ms : List Move) → 0 < length ms → cell_word actions k ms ≡ word_of_entry (k / actions) (k % actions) (length ms) ∷ move_words ms

@@ -2,7 +2,8 @@ use Rattle.std.proofs.Common.{rules, ◌≡◌, eqb, ◌+◌, get_or, position, 
 use Rattle.std.proofs.lemmas.List.Quantifiers.{position-Some}
 use Rattle.bounded.specs.Listed.{listed}
 use Rattle.model.specs.declared.Outcome.{Outcome}
-use Rattle.rulemodel.proofs.Gathering.{added_at, added_new, weight_at}
+use Rattle.model.proofs.Laws.{weight_at}
+use Rattle.rulemodel.proofs.Gathering.{added_at, added_new}
 use Rattle.rulemodel.proofs.with_landing.Goals as goal
 
 pub returns-in-Some : goal.returns-in-Some

@@ -2,9 +2,9 @@ use Rattle.std.proofs.Common.{◌≡◌, ◌+◌, [], ◌∷◌, ◌++◌, map, 
 use Rattle.std.proofs.lemmas.List.{map_more}
 use Rattle.pen.specs.Laid.{Adds}
 use Rattle.pen.proofs.Laying.{adds_both}
+use Rattle.sitelayout.proofs.Account.{marks-append}
 use Rattle.sitelayout.specs.Layout.{mark_words}
 use Rattle.writeout.specs.Book.{mark_of}
-use Rattle.writeout.proofs.Wording.{marks-append}
 use Rattle.writeout.proofs.listing.Listing.write_marks.Goals as goal
 
 pub loop-code-preserved : goal.loop-code-preserved

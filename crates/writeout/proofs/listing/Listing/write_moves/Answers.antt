@@ -4,10 +4,10 @@ use Rattle.register.specs.Listed.{listed}
 use Rattle.model.specs.declared.Outcome.{Outcome}
 use Rattle.pen.specs.Laid.{Adds}
 use Rattle.pen.proofs.Laying.{adds_both}
+use Rattle.sitelayout.proofs.Account.{moves-append}
 use Rattle.sitelayout.specs.Layout.{move_words}
 use Rattle.sitelayout.specs.OneWord.{word_of_move}
 use Rattle.writeout.specs.Book.{move_to}
-use Rattle.writeout.proofs.Wording.{moves-append}
 use Rattle.writeout.proofs.listing.Listing.write_moves.Goals as goal
 
 pub loop-way-preserved : goal.loop-way-preserved
