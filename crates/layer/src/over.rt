@@ -40,7 +40,7 @@ impl<'a, M: SiteModel> Over<'a, M> {
         Ok(Over { below, book, sizes })
     }
 
-    // The state below and the memory, where `s` is a state of the layer.
+    // The state below and the memory, where `s` is a state of the layer. A pair, which each caller takes apart at once.
     fn apart(&self, s: u64) -> Option<(u64, u64)>
         ensures { MatchOption result (is_layer_state (M.SiteModel.meaning self.now.below.now) (contents self.now.book.now) s ≡ false) (λ p. (is_layer_state (M.SiteModel.meaning self.now.below.now) (contents self.now.book.now) s ≡ true) × (p.0 ≡ under s) × (p.1 ≡ memory_in s)) }
     {

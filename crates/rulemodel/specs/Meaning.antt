@@ -9,7 +9,7 @@ use Rattle.register.specs.Keys.{Kept}
 use Rattle.rulelayout.specs.declared.Effect.{Effect}
 use Rattle.rulelayout.specs.Rule.{Act, Rule, total}
 
--- whether the switch k is on in a mask
+-- whether the switch k is on in a mask; of labels truth says the same, and neither subject knows the other
 abbrev pub is_on : ℕ → ℕ → Bool
 is_on k mask = mask / 2 ^ k % 2 == 1
 
