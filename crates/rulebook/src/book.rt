@@ -7,6 +7,7 @@ ghost use Rattle.rulebook.specs.Acts.{rule_from};
 use crate::action::Action;
 use bounded::Bounded;
 
+// What it says is one value, `contents`, of which the laws speak; an `impl Model` would name that a second time.
 #[derive(Clone, Copy)]
 pub struct RuleBook {
     pub(crate) switches: u8,

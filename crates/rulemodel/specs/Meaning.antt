@@ -30,6 +30,7 @@ abbrev pub added : List Outcome → ℕ → ℕ → List Outcome
 added [] t w = record { target = t; weight = w } ∷ []
 added (o ∷ os) t w = cond (t == o.target) (heavier o w ∷ os) (o ∷ added os t w)
 
+-- one landing after another; a recursion and no library fold, since the laws open it turn by turn from the left
 abbrev pub landings_onto : ℕ → List Outcome → List Effect → List Outcome
 landings_onto s os [] = os
 landings_onto s os (e ∷ es) = landings_onto s (added os (landing s e) e.weight) es

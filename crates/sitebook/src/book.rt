@@ -12,6 +12,7 @@ mod reading;
 pub use reading::read_site;
 
 // `bound` is the largest size of a reward.
+// What it says is one value, `contents`, of which the laws speak; an `impl Model` would name that a second time.
 #[derive(Drop)]
 pub struct SiteBook {
     tables: Tables,

@@ -7,6 +7,7 @@ use bounded::Bounded;
 use formula::{Item, Node};
 use wishlayout::Wish;
 
+// What it says is one value, `contents`, of which the laws speak; an `impl Model` would name that a second time.
 #[derive(Clone, Copy)]
 pub struct WishBook {
     pub(crate) nodes: Bounded<Node, 128>,
