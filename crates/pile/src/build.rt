@@ -22,8 +22,7 @@ pub fn stack<G: GroundModel>(
 ) -> Three<G>
     ensures { meaning_of (meaning_of (meaning_of (λ f. G.SiteModel.meaning f.bottom))) result ≡ piled (G.SiteModel.meaning bottom) (option_map contents first ∷ (option_map contents second ∷ (option_map contents third ∷ []))) }
 {
-    Layer::new(
-        Layer::new(Layer::new(Footing::new(bottom), first), second),
-        third,
-    )
+    let one = Layer::new(Footing::new(bottom), first);
+    let two = Layer::new(one, second);
+    Layer::new(two, third)
 }
