@@ -5,6 +5,7 @@ use super::Node;
 use register::Key;
 
 // A node's operands make the number that its bucket comes of; nodes with few operands in common mostly fall apart.
+// `mark_operands` matches on them too: there places are marked, here a number is made, so that one list of them would serve neither.
 impl Key for Node {
     ghost bucket = { λ node. first_of node + 256 * second_of node };
 

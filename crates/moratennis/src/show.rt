@@ -5,7 +5,7 @@ use std::fmt;
 use truth::shows;
 use wishbook::WishBook;
 
-// The labels of a mask, as `p0 p3`, or `-` where there are none.
+// The labels of a mask, as `p0 p3`, or `-` where there are none. Joined by hand, as `Leads` is: the library joins on a heap.
 #[derive(Clone, Copy)]
 struct Labels(u32);
 
@@ -38,7 +38,7 @@ impl fmt::Display for Formula<'_> {
     }
 }
 
-// The formula of node `i`; operands come before their node.
+// The formula of node `i`; operands come before their node, and so it ends: `Formula` prints by it, since it calls itself.
 fn write_formula<W: fmt::Write>(f: &mut fmt::Formatter<W>, nodes: &[Node], i: u8) -> fmt::Result {
     let at = i as usize;
     let Some(node) = nodes.get(at) else {

@@ -16,6 +16,7 @@ pub struct OriginBook {
 }
 
 impl OriginBook {
+    // By name and no `From`: it is another model, by its grounds.
     pub fn new(book: SiteBook) -> OriginBook
         ensures { result.book ≡ book }
     {

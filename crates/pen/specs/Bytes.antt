@@ -2,7 +2,7 @@
 use Rattle.std.specs.Prelude.{◌≡◌, ℕ, ◌-◌, ◌*◌, ◌<◌, ◌≤◌, List, ◌++◌, length, Some, None, Option, replicate}
 use Rattle.words.specs.Words.{bytes_of}
 
--- a list made n long with zeros
+-- a list made n long with zeros; sitelayout fills with cells, and neither crate needs the other
 abbrev pub padded : ℕ → List ℕ → List ℕ
 padded n xs = xs ++ replicate (n - length xs) 0
 

@@ -13,7 +13,7 @@ use wishbook::WishBook;
 // A pile of nought to three wish books.
 pub type Three<G> = Layer<Layer<Layer<Footing<G>>>>;
 
-// The books laid on the ground model, the first one lowest.
+// The books laid on the ground model, the first one lowest. Three options, since the type has three floors.
 pub fn stack<G: GroundModel>(
     bottom: G,
     first: Option<WishBook>,

@@ -33,6 +33,7 @@ pub fn needs_met(s: u64, on: u16, off: u16) -> bool
 }
 
 // The place of the outcome with this target.
+// Tried inline: the answers of `with_landing`, its one caller, do not fit then.
 fn place_of(ways: &[Outcome], target: u64) -> Option<usize>
     ensures { result ≡ position (λ way. target == way.target) ways.now }
 {

@@ -52,7 +52,8 @@ pub struct Move {
     pub weight: u8,
 }
 
-// What a head says, untested: the fields of the word as they stand, and so in what follows.
+// What a head says, untested: the fields of the word as they stand, and so in what follows. Functions and no `From`: their names say
+// that nothing is tested.
 pub fn head_in(word: u32) -> Head
     ensures { result ≡ one_word.head_in word }
 {

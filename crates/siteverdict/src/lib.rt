@@ -15,7 +15,7 @@ mod steps;
 
 use state::State;
 
-// How large a book is, how many outcomes it has in all, and the largest size of a reward in it.
+// How large a book is, how many outcomes it has in all (promised, though storing no longer asks), and the largest size of a reward in it.
 #[derive(Clone, Copy, Debug, PartialEq, Eq)]
 pub struct Counts {
     pub head: Head,

@@ -94,7 +94,7 @@ fn operand(word: u32, low: u32, count: u32) -> Result<u8, Refusal>
     Ok(a as u8)
 }
 
-// A node word after `count` others.
+// A node word after `count` others. `open` tests its kind again, with the unused bits that the kind leaves.
 pub fn read_node(word: u32, count: u32) -> Result<Node, Refusal>
     ensures { result ≡ node_of count word }
 {

@@ -38,6 +38,7 @@ pub record Format (S B : Type 0) : Type 0 where
   pub step : S → ℕ → Step S
   pub finish : S → Result B Refusal
 
+-- no byte is left; `none` of Tests says the same of any list, and this page needs nothing else of that one
 abbrev pub is_nil : List ℕ → Bool
 is_nil [] = true
 is_nil (b ∷ bs) = false

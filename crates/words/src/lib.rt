@@ -24,7 +24,7 @@ pub fn next_word(bytes: &[u8]) -> Option<(u32, &[u8])>
     Some((u32::from_le_bytes([*a, *b, *c, *d]), rest))
 }
 
-// The bits of a word from bit `low` on, `width` of them.
+// The bits of a word from bit `low` on, `width` of them. An `if` for a shift past the word: `checked_shr` leaves the same two cases.
 pub fn field(word: u32, low: u32, width: u32) -> u32
     ensures { result ≡ field_of word low width }
 {
