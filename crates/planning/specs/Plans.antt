@@ -17,9 +17,13 @@ worth_at w m horizon p = worth_of w discount_of m horizon (p / m.span) (p % m.sp
 abbrev pub choice_at : Weigh → Model → ℕ → ℕ → ℕ
 choice_at w m horizon p = choice_of w discount_of m horizon (p / m.span) (p % m.span)
 
--- the first n places hold what f says, and later places are untouched
+-- the first n places hold what f says
+abbrev pub HoldsTo : {X : Type 0} → (ℕ → X) → ℕ → List X → Type 0
+HoldsTo {X = X} f n xs = (p : ℕ) (d : X) → p < n → slice_index_or xs p d ≡ f p
+
+-- so they do, and later places are untouched
 pub record Filled {X : Type 0} (f : ℕ → X) (n : ℕ) (before after : List X) : Type 0 where
-  pub places : (p : ℕ) (d : X) → p < n → slice_index_or after p d ≡ f p
+  pub places : HoldsTo f n after
   pub size : length after ≡ length before
   pub later : drop n after ≡ drop n before
 

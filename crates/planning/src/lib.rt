@@ -1,3 +1,11 @@
-// Planning back from a horizon: what a plan answers and leaves in its tables. Definitions only; no code yet.
+// Planning back from a horizon: what each state is worth with so many slots left, and which action is best there.
 
 #![tactic(auto)]
+
+mod best;
+mod fill;
+mod own;
+mod planner;
+mod tables;
+
+pub use tables::plan;

@@ -7,7 +7,8 @@ use Rattle.model.specs.Histories.{final, History, begun, onward, Unfolds}
 use Rattle.model.specs.Models.{Model}
 use Rattle.weighing.specs.Holding.{held_raises, le_through}
 use Rattle.weighing.specs.Weighings.{Weigh, LawfulWeigh, held}
-use Rattle.worth.specs.Worths.{joined, own_part, summed, Pick, pick_at, worth_by, worth_of, action_of}
+use Rattle.worth.specs.declared.Pick.{Pick}
+use Rattle.worth.specs.Worths.{joined, own_part, summed, pick_at, worth_by, worth_of, action_of}
 use Rattle.worth.specs.Policies.{Policy, LedTo, led_start, led_on, Admissible, earned_after, Best, planned}
 use Rattle.worth.proofs.Picking.{pick_some, pick_told}
 use Rattle.worth.proofs.Joining.{joined_raises, joined_same, joined_along, sum_raises}

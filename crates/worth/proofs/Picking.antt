@@ -5,7 +5,8 @@ use Rattle.std.proofs.Common.{◌≡◌, ℕ, zero, suc, ◌<◌, Bool, true, fa
 use lib.Signed.{lt_z, ≤ℤ_refl}
 use Rattle.std.proofs.lemmas.Int.{ints}
 use Rattle.std.proofs.lemmas.Bool.{cases_lt, cond_both, both_ways}
-use Rattle.worth.specs.Worths.{Pick, better, pick_below}
+use Rattle.worth.specs.declared.Pick.{Pick}
+use Rattle.worth.specs.Worths.{better, pick_below}
 use Rattle.worth.specs.Choosing.{Picks}
 
 lt_z_lt : (a b : ℤ) → lt_z a b ≡ true → a <ℤ b

@@ -1,6 +1,6 @@
 -- Which action a choice takes: the lowest of the offered ones that reaches the largest value.
 use Rattle.std.specs.Prelude.{◌≡◌, ℕ, ◌<◌, Bool, true, ℤ, ◌≤ℤ◌, ◌<ℤ◌}
-use Rattle.worth.specs.Worths.{Pick}
+use Rattle.worth.specs.declared.Pick.{Pick}
 
 -- the pick is one of the actions below n that are offered, with its value
 pub record Picks (offers : ℕ → Bool) (values : ℕ → ℤ) (n : ℕ) (p : Pick) : Type 0 where

@@ -1,22 +1,17 @@
 -- What a state is worth with so many slots left, by the backward rule, and which action is best there. The own part of a state is its
 -- reward in the present slot; to it comes the largest joined value over the offered actions.
-use Rattle.std.specs.Prelude.{ℕ, zero, suc, ◌-◌, ◌*◌, ◌^◌, Bool, cond, List, [], ◌∷◌, ℤ, pos, ◌+ℤ◌, ◌*ℤ◌, Some, None, Option, int_lt}
+use Rattle.std.specs.Prelude.{ℕ, zero, suc, ◌-◌, ◌*◌, ◌^◌, Bool, cond, List, ℤ, pos, ◌+ℤ◌, ◌*ℤ◌, Some, None, Option, fold, int_lt}
 use Rattle.model.specs.declared.Outcome.{Outcome}
 use Rattle.model.specs.Models.{Model}
 use Rattle.weighing.specs.Weighings.{Weigh, held}
+use Rattle.worth.specs.declared.Pick.{Pick}
 
 -- the values of outcomes joined in order, after the value so far
 abbrev pub joined_from : Weigh → (ℕ → ℤ) → ℤ → List Outcome → ℤ
-joined_from w value x [] = x
-joined_from w value x (o ∷ os) = joined_from w value (w.join x o.weight (value o.target)) os
+joined_from w value x os = fold (λ y o. w.join y o.weight (value o.target)) x os
 
 abbrev pub joined : Weigh → (ℕ → ℤ) → List Outcome → ℤ
 joined w value os = joined_from w value w.first os
-
--- an action and its joined value
-pub record Pick : Type 0 where
-  pub action : ℕ
-  pub value : ℤ
 
 -- one action more: it is taken only where its value is larger
 abbrev pub better : Option Pick → ℕ → ℤ → Option Pick

@@ -1,0 +1,4 @@
+pub mod Powers
+pub mod Filling
+pub mod Entries
+pub mod Better
