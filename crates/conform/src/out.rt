@@ -15,9 +15,10 @@ pub fn answer(heap: Global, words: &str) -> Result<String, Failure> {
     let [kind, hex, codes, bytes, wishes @ ..] = parts.as_slice() else {
         return Err(Failure::Unknown);
     };
-    let mut codes = vec![in heap; BEFORE as u64; places(codes)?]?;
-    let mut bytes = vec![in heap; BEFORE; places(bytes)?]?;
+    let (codes, bytes) = (places(codes)?, places(bytes)?);
     let built = build(heap, kind, hex, wishes)?;
+    let mut codes = vec![in heap; BEFORE as u64; codes]?;
+    let mut bytes = vec![in heap; BEFORE; bytes]?;
     let written = write_pile(&built.pile, codes.as_mut_slice(), bytes.as_mut_slice())?;
     let codes = Numbers(codes.as_slice());
     let bytes = Hex(bytes.as_slice());
