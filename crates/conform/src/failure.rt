@@ -1,13 +1,15 @@
 // What is answered where a command is not carried out.
-use refusal::{Fault, Unread};
+use refusal::{Fault, Refusal, Unread};
 use std::alloc::{AllocError, AllocFailed};
 use std::fmt;
 
+// A book is faulty at a word; what is asked of a model that was built is refused as a whole.
 #[derive(Clone, Copy, Debug, PartialEq, Eq)]
 pub enum Failure {
     Unknown,
     Unreadable,
-    Refused(Fault),
+    Faulty(Fault),
+    Refused(Refusal),
     Memory,
 }
 
@@ -16,26 +18,33 @@ impl fmt::Display for Failure {
         match self {
             Failure::Unknown => f.write_str("unknown"),
             Failure::Unreadable => f.write_str("unreadable"),
-            Failure::Refused(fault) => {
+            Failure::Faulty(fault) => {
                 write!(f, "refused {} {}", fault.refusal.number(), fault.place)
             }
+            Failure::Refused(refusal) => write!(f, "refused {}", refusal.number()),
             Failure::Memory => f.write_str("no memory"),
         }
-    }
-}
-
-impl From<Fault> for Failure {
-    fn from(fault: Fault) -> Failure {
-        Failure::Refused(fault)
     }
 }
 
 impl From<Unread> for Failure {
     fn from(why: Unread) -> Failure {
         match why {
-            Unread::Refused(fault) => Failure::Refused(fault),
+            Unread::Refused(fault) => Failure::Faulty(fault),
             Unread::Memory(_) => Failure::Memory,
         }
+    }
+}
+
+impl From<Fault> for Failure {
+    fn from(fault: Fault) -> Failure {
+        Failure::Faulty(fault)
+    }
+}
+
+impl From<Refusal> for Failure {
+    fn from(refusal: Refusal) -> Failure {
+        Failure::Refused(refusal)
     }
 }
 

@@ -2,9 +2,12 @@
 
 #![tactic(auto)]
 
+mod built;
 mod failure;
 mod kind;
 mod lay;
+mod lists;
+mod out;
 
 ghost use Rattle.std.specs.Prelude.{◌<◌, IfOk};
 
@@ -37,11 +40,16 @@ fn answer(heap: Global, line: &str) -> Result<String, Failure> {
     let Some((command, rest)) = line.split_once(' ') else {
         return Err(Failure::Unknown);
     };
-    if command == "lay" {
-        return lay::answer(heap, rest);
+    match command {
+        "lay" => lay::answer(heap, rest),
+        "out" => out::answer(heap, rest),
+        _ => book(heap, command.parse()?, rest),
     }
-    let kind: Kind = command.parse()?;
-    let bytes = unhex(heap, rest)?;
+}
+
+// What a book holds.
+fn book(heap: Global, kind: Kind, hex: &str) -> Result<String, Failure> {
+    let bytes = unhex(heap, hex)?;
     match kind {
         Kind::Site => site(heap, bytes.as_slice()),
         Kind::Rule => rule(heap, bytes.as_slice()),

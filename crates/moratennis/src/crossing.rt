@@ -1,4 +1,6 @@
 // The built-in crossing: a three-state site, and the wish "swept and previous train" worth 10.
+use crate::book::written_out;
+use crate::build::refused;
 use crate::show;
 use anyhow::Context;
 use ground::GroundBook;
@@ -40,7 +42,8 @@ pub fn run(rt: &HostRuntime) -> anyhow::Result<()> {
         sizes.labels, sizes.bound
     )?;
     println!(rt; "a crossing with two trains on the bridge at once:")?;
-    follow(rt, &pile)
+    follow(rt, &pile)?;
+    write_out(rt, &pile)
 }
 
 // Slot by slot: the site's state, what is remembered, and whether the wish holds.
@@ -52,6 +55,22 @@ fn follow(rt: &HostRuntime, pile: &Three<GroundBook>) -> anyhow::Result<()> {
             "the crossing takes an outcome that there is not",
         )?;
         slot(rt, pile, i + 1, state)?;
+    }
+    Ok(())
+}
+
+// The listed states, in the order in which they are found, and how large their book is.
+fn write_out(rt: &HostRuntime, pile: &Three<GroundBook>) -> anyhow::Result<()> {
+    let book = written_out(rt.alloc(), pile)?.map_err(refused)?;
+    println!(rt;
+        "written out: a site book of {} states and {} words",
+        book.codes.len(),
+        book.bytes.len() / 4
+    )?;
+    for (place, code) in book.codes.iter().enumerate() {
+        let site = pile.ground(*code);
+        let reward = pile.reward(*code);
+        println!(rt; "  state {place}: code {code}, site state {site}, reward {reward}")?;
     }
     Ok(())
 }

@@ -5,9 +5,13 @@
 ghost use Rattle.std.specs.Prelude.{◌≡◌, IfOk};
 ghost use Rattle.std.specs.Process.{exit_status};
 
+mod book;
+mod build;
 mod check;
 mod crossing;
+mod options;
 mod show;
+mod writing;
 
 use std::env;
 use std::process::ExitCode;
@@ -25,6 +29,10 @@ fn main(rt: HostRuntime) -> anyhow::Result<ExitCode> {
             kind.as_str(),
             file.as_str(),
         ),
+        [command, options @ ..] if command.as_str() == "write" => {
+            writing::run(&rt, options)?;
+            Ok(ExitCode::SUCCESS)
+        }
         _ => usage(&rt),
     }
 }
@@ -37,6 +45,12 @@ fn usage(rt: &HostRuntime) -> anyhow::Result<ExitCode>
     )?;
     rt.eprintln(
         "       moratennis check site|rule|wish FILE   what a book holds, or why it is refused",
+    )?;
+    rt.eprintln(
+        "       moratennis write GROUND.. --to FILE    writes the site book of all that is reachable",
+    )?;
+    rt.eprintln(
+        "GROUND..: --site FILE or --rule FILE, and up to three wish books laid on it, --wish FILE",
     )?;
     Ok(ExitCode::FAILURE)
 }

@@ -1,0 +1,64 @@
+// Building the pile of the books that options name.
+use crate::options::{GroundFile, Options};
+use anyhow::{Context, Error, anyhow};
+use ground::GroundBook;
+use pile::{Three, stack};
+use refusal::Refusal;
+use rulebook::read_rule;
+use sitebook::read_site;
+use std::fs;
+use wishbook::{WishBook, read_wish};
+
+// Where a book does not read or is not laid, the error says which file it stands in, and why.
+pub fn pile(rt: &HostRuntime, options: &Options) -> anyhow::Result<Three<GroundBook>> {
+    let ground = ground(rt, options.ground()?)?;
+    let mut books = Vec::new(rt.alloc());
+    for file in options.wishes() {
+        books.push(wish(rt, file)?)?;
+    }
+    let book = |i: usize| books.get(i).copied();
+    let pile = stack(ground, book(0), book(1), book(2));
+    for (file, refusal) in options.wishes().iter().zip(refusals(&pile)) {
+        if let Some(refusal) = refusal {
+            return Err(refused(refusal).context(format_args!("{file}")));
+        }
+    }
+    Ok(pile)
+}
+
+fn ground(rt: &HostRuntime, ground: GroundFile) -> anyhow::Result<GroundBook> {
+    match ground {
+        GroundFile::Site(file) => site(rt, file).context(format_args!("{file}")),
+        GroundFile::Rule(file) => rule(rt, file).context(format_args!("{file}")),
+    }
+}
+
+fn site(rt: &HostRuntime, file: &str) -> anyhow::Result<GroundBook> {
+    let bytes = fs::read(rt, file)?;
+    Ok(GroundBook::Site(read_site(rt.alloc(), bytes.as_slice())?))
+}
+
+fn rule(rt: &HostRuntime, file: &str) -> anyhow::Result<GroundBook> {
+    let bytes = fs::read(rt, file)?;
+    Ok(GroundBook::Rule(read_rule(bytes.as_slice())?))
+}
+
+fn wish(rt: &HostRuntime, file: &str) -> anyhow::Result<WishBook> {
+    let bytes = fs::read(rt, file)?;
+    read_wish(bytes.as_slice()).context(format_args!("{file}"))
+}
+
+// Why each book is not laid, the lowest first.
+fn refusals(pile: &Three<GroundBook>) -> [Option<Refusal>; 3] {
+    [
+        pile.below().below().refusal(),
+        pile.below().refusal(),
+        pile.refusal(),
+    ]
+}
+
+// A refusal that is about no word.
+pub fn refused(refusal: Refusal) -> Error {
+    let number = refusal.number();
+    anyhow!("refused: {number}: {refusal}")
+}

@@ -1,0 +1,29 @@
+// Writes the book of a pile to a file.
+ghost use Rattle.std.specs.Prelude.{IfOk};
+ghost use Rattle.writeout.specs.Tables.{Writable};
+
+use crate::book::written_out;
+use crate::build::{pile, refused};
+use crate::options::Options;
+use pile::Pile;
+use std::fs;
+
+pub fn run(rt: &HostRuntime, words: &[String]) -> anyhow::Result<()> {
+    let options = Options::parse(rt.alloc(), words)?;
+    let to = options.to()?;
+    save(rt, &pile(rt, &options)?, to)
+}
+
+// Nothing is written where the pile cannot be written out.
+fn save<P: Pile>(rt: &HostRuntime, pile: &P, to: &str) -> anyhow::Result<()>
+    ensures { IfOk result (λ _. Writable (P.SiteModel.meaning pile.now)) }
+{
+    let book = written_out(rt.alloc(), pile)?.map_err(refused)?;
+    fs::write(rt, to, book.bytes.as_slice())?;
+    println!(rt;
+        "{to}: a site book of {} states and {} words",
+        book.codes.len(),
+        book.bytes.len() / 4
+    )?;
+    Ok(())
+}
