@@ -1,0 +1,50 @@
+-- The built-in crossing, computed: three states (no train, a train, a train that was swept) and the wish "swept and previous train"
+-- worth 10. `Marked` is one theorem about the definitions: what the words read as, and what they mean.
+use Rattle.std.specs.Prelude.{◌≡◌, ℕ, List, [], ◌∷◌}
+use Rattle.formula.specs.declared.Item.TheVariants.{Held}
+use Rattle.formula.specs.declared.Node.TheVariants.{Label, And, Previous}
+use Rattle.sitelayout.specs.Layout.{site_format}
+use Rattle.sitelayout.specs.Site.{Site}
+use Rattle.wishbook.specs.Book.{Book, book_of}
+use Rattle.wishlayout.specs.Layout.{wish_format}
+use Rattle.wishlayout.specs.Wishes.{Wishes}
+use Rattle.words.specs.Format.{got, reading}
+use Rattle.words.specs.Words.{bytes_of}
+
+-- the words of the site book and of the wish book
+abbrev pub site_file : List ℕ
+site_file = 0x10084003 ∷ (0x20000000 ∷ (0x300007D0 ∷ (0x20000001 ∷ (0x300017D0 ∷ (0x20000003 ∷ (0x300027D0 ∷ (0x40010000 ∷ (0x50004000 ∷ (0x50004001 ∷ (0x40008001 ∷ (0x50008001 ∷ (0x40011001 ∷ (0x50006002 ∷ (0x50002001 ∷ (0x40008002 ∷ (0x50008000 ∷ (0xF0000011 ∷ [])))))))))))))))))
+
+abbrev pub wish_file : List ℕ
+wish_file = 0x10000001 ∷ (0x10000000 ∷ (0x50000001 ∷ (0x30000200 ∷ (0xA0010903 ∷ (0xF0000005 ∷ [])))))
+
+-- what the site book says
+abbrev pub crossing_site : Site
+crossing_site = record {
+  labels = 2;
+  actions = 2;
+  marks =
+      record { mask = 0; worth = record { raised = 2000; origin = 0 } }
+      ∷ (record { mask = 1; worth = record { raised = 2000; origin = 1 } }
+      ∷ (record { mask = 3; worth = record { raised = 2000; origin = 2 } } ∷ []));
+  cells =
+      (record { target = 0; weight = 4 } ∷ (record { target = 1; weight = 4 } ∷ []))
+      ∷ ([]
+      ∷ ((record { target = 1; weight = 8 } ∷ [])
+      ∷ ((record { target = 2; weight = 6 } ∷ (record { target = 1; weight = 2 } ∷ []))
+      ∷ ((record { target = 0; weight = 8 } ∷ [])
+      ∷ ([] ∷ [])))));
+}
+
+-- what the wish book says: swept (label 1), train (label 0), previous train, both; 10 is raised by 255
+abbrev pub crossing_wishes : Wishes
+crossing_wishes = record { nodes = Label 1 ∷ (Label 0 ∷ (Previous 1 ∷ (And 0 2 ∷ []))); wishes = record { node = 3; raised = 265 } ∷ [] }
+
+-- no two nodes are equal, and the truth of "train" is remembered
+abbrev pub crossing_wish : Book
+crossing_wish = record { nodes = Label 1 ∷ (Label 0 ∷ (Previous 1 ∷ (And 0 2 ∷ []))); wishes = record { node = 3; raised = 265 } ∷ []; items = Held 1 ∷ [] }
+
+pub record Marked : Type 0 where
+  pub site_reads : reading site_format (bytes_of site_file) ≡ got crossing_site
+  pub wish_reads : reading wish_format (bytes_of wish_file) ≡ got crossing_wishes
+  pub wish_means : book_of crossing_wishes ≡ crossing_wish
