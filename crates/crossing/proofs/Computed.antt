@@ -1,5 +1,7 @@
 -- The built-in crossing, computed by the definitions. For the contracts: `marked`.
-use Rattle.std.proofs.Common.{◌≡◌, refl}
+use Rattle.std.proofs.Common.{◌≡◌, [], ◌∷◌, length, map, pos, refl, ◌∙◌, ap, arith}
+use Rattle.reach.specs.Search.{listed_after, codes_of}
+use Rattle.reach.proofs.Turns.{listed_complete}
 use Rattle.sitelayout.specs.Layout as site
 use Rattle.sitelayout.specs.Layout.{site_format}
 use Rattle.wishbook.specs.Book.{book_of}
@@ -7,7 +9,7 @@ use Rattle.wishlayout.specs.Layout as wish
 use Rattle.wishlayout.specs.Layout.{wish_format}
 use Rattle.words.specs.Format.{got, reading, run}
 use Rattle.words.specs.Words.{bytes_of}
-use Rattle.crossing.specs.Marked.{site_file, wish_file, crossing_site, crossing_wishes, crossing_wish, Marked}
+use Rattle.crossing.specs.Marked.{site_file, wish_file, crossing_site, crossing_wishes, crossing_wish, crossing, crossing_codes, Marked}
 
 site_reads : reading site_format (bytes_of site_file) ≡ got crossing_site
 unfolding run site.read_word site.whole_book
@@ -20,5 +22,16 @@ wish_reads = refl
 wish_means : book_of crossing_wishes ≡ crossing_wish
 wish_means = refl
 
+-- five turns list five codes, so that no later turn adds any
+turned : listed_after crossing 5 ≡ crossing_codes
+unfolding listed_after
+turned = refl
+
+codes : codes_of crossing ≡ crossing_codes
+codes = listed_complete crossing 5 (omega arith) (omega (arith, ap length turned)) ∙ turned
+
+rewards : map crossing.reward crossing_codes ≡ pos 0 ∷ (pos 0 ∷ (pos 0 ∷ (pos 10 ∷ (pos 0 ∷ []))))
+rewards = refl
+
 pub marked : Marked
-marked = record { site_reads = site_reads; wish_reads = wish_reads; wish_means = wish_means }
+marked = record { site_reads = site_reads; wish_reads = wish_reads; wish_means = wish_means; codes = codes; rewards = rewards }

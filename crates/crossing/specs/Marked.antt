@@ -1,8 +1,12 @@
 -- The built-in crossing, computed: three states (no train, a train, a train that was swept) and the wish "swept and previous train"
--- worth 10. `Marked` is one theorem about the definitions: what the words read as, and what they mean.
-use Rattle.std.specs.Prelude.{◌≡◌, ℕ, List, [], ◌∷◌}
+-- worth 10. `Marked` is one theorem about the definitions: what the words read as, and the listed codes and rewards of the pile.
+use Rattle.std.specs.Prelude.{◌≡◌, ℕ, List, [], ◌∷◌, map, pos, Some}
 use Rattle.formula.specs.declared.Item.TheVariants.{Held}
 use Rattle.formula.specs.declared.Node.TheVariants.{Label, And, Previous}
+use Rattle.model.specs.Models.{Model}
+use Rattle.pile.specs.Piles.{piled}
+use Rattle.reach.specs.Search.{codes_of}
+use Rattle.sitebook.specs.Models.{site_model}
 use Rattle.sitelayout.specs.Layout.{site_format}
 use Rattle.sitelayout.specs.Site.{Site}
 use Rattle.wishbook.specs.Book.{Book, book_of}
@@ -44,7 +48,17 @@ crossing_wishes = record { nodes = Label 1 ∷ (Label 0 ∷ (Previous 1 ∷ (And
 abbrev pub crossing_wish : Book
 crossing_wish = record { nodes = Label 1 ∷ (Label 0 ∷ (Previous 1 ∷ (And 0 2 ∷ []))); wishes = record { node = 3; raised = 265 } ∷ []; items = Held 1 ∷ [] }
 
+-- the pile
+abbrev pub crossing : Model
+crossing = piled (site_model crossing_site) (Some crossing_wish ∷ [])
+
+-- its states, in the order of the search
+abbrev pub crossing_codes : List ℕ
+crossing_codes = 0 ∷ (65536 ∷ (65537 ∷ (131073 ∷ (1 ∷ []))))
+
 pub record Marked : Type 0 where
   pub site_reads : reading site_format (bytes_of site_file) ≡ got crossing_site
   pub wish_reads : reading wish_format (bytes_of wish_file) ≡ got crossing_wishes
   pub wish_means : book_of crossing_wishes ≡ crossing_wish
+  pub codes : codes_of crossing ≡ crossing_codes
+  pub rewards : map crossing.reward crossing_codes ≡ pos 0 ∷ (pos 0 ∷ (pos 0 ∷ (pos 10 ∷ (pos 0 ∷ []))))
