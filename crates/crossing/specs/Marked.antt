@@ -1,5 +1,6 @@
 -- The built-in crossing, computed: three states (no train, a train, a train that was swept) and the wish "swept and previous train"
--- worth 10. `Marked` is one theorem about the definitions: what the words read as, and the listed codes and rewards of the pile.
+-- worth 10. `Marked` is one theorem about the definitions: what the words read as, the listed codes and rewards of the pile, and the
+-- worths and choices of its written-out book.
 use Rattle.std.specs.Prelude.{◌≡◌, ℕ, List, [], ◌∷◌, map, pos, Some}
 use Rattle.formula.specs.declared.Item.TheVariants.{Held}
 use Rattle.formula.specs.declared.Node.TheVariants.{Label, And, Previous}
@@ -9,11 +10,15 @@ use Rattle.reach.specs.Search.{codes_of}
 use Rattle.sitebook.specs.Models.{site_model}
 use Rattle.sitelayout.specs.Layout.{site_format}
 use Rattle.sitelayout.specs.Site.{Site}
+use Rattle.weighing.specs.Discounts.{discount_of}
+use Rattle.weighing.specs.Weighings.{mean, worst}
 use Rattle.wishbook.specs.Book.{Book, book_of}
 use Rattle.wishlayout.specs.Layout.{wish_format}
 use Rattle.wishlayout.specs.Wishes.{Wishes}
 use Rattle.words.specs.Format.{got, reading}
 use Rattle.words.specs.Words.{bytes_of}
+use Rattle.worth.specs.Worths.{worth_of, choice_of}
+use Rattle.writeout.specs.Tables.{out_book}
 
 -- the words of the site book and of the wish book
 abbrev pub site_file : List ℕ
@@ -56,9 +61,20 @@ crossing = piled (site_model crossing_site) (Some crossing_wish ∷ [])
 abbrev pub crossing_codes : List ℕ
 crossing_codes = 0 ∷ (65536 ∷ (65537 ∷ (131073 ∷ (1 ∷ []))))
 
+-- its written-out book as a model, whose states are the places in that order
+abbrev pub crossing_book : Model
+crossing_book = site_model (out_book crossing)
+
+abbrev pub places : List ℕ
+places = 0 ∷ (1 ∷ (2 ∷ (3 ∷ (4 ∷ []))))
+
 pub record Marked : Type 0 where
   pub site_reads : reading site_format (bytes_of site_file) ≡ got crossing_site
   pub wish_reads : reading wish_format (bytes_of wish_file) ≡ got crossing_wishes
   pub wish_means : book_of crossing_wishes ≡ crossing_wish
   pub codes : codes_of crossing ≡ crossing_codes
   pub rewards : map crossing.reward crossing_codes ≡ pos 0 ∷ (pos 0 ∷ (pos 0 ∷ (pos 10 ∷ (pos 0 ∷ []))))
+  -- two slots ahead, place by place: the worths with both slots left, and the choices then
+  pub worths : map (worth_of mean discount_of crossing_book 2 2) places ≡ pos 54000 ∷ (pos 142200 ∷ (pos 142200 ∷ (pos 163840 ∷ (pos 54000 ∷ []))))
+  pub choices : map (choice_of mean discount_of crossing_book 2 1) places ≡ 0 ∷ (1 ∷ (1 ∷ (0 ∷ (0 ∷ []))))
+  pub start_at_worst : worth_of worst discount_of crossing_book 2 2 0 ≡ pos 0
