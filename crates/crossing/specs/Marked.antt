@@ -1,18 +1,15 @@
 -- The built-in crossing, computed: three states (no train, a train, a train that was swept) and the wish "swept and previous train"
--- worth 10. `Marked` is one theorem about the definitions: what the words read as, the listed codes and rewards of the pile, the worths
--- and choices of its written-out book, and two walks.
-use Rattle.std.specs.Prelude.{◌≡◌, ℕ, Bool, List, [], ◌∷◌, map, ℤ, pos, Some, None}
+-- worth 10. `Marked` is one theorem about the definitions: what the words read as, the listed codes and rewards of the pile, and the
+-- worths and choices of its written-out book.
+use Rattle.std.specs.Prelude.{◌≡◌, ℕ, List, [], ◌∷◌, map, pos, Some}
 use Rattle.formula.specs.declared.Item.TheVariants.{Held}
 use Rattle.formula.specs.declared.Node.TheVariants.{Label, And, Previous}
 use Rattle.model.specs.Models.{Model}
 use Rattle.pile.specs.Piles.{piled}
 use Rattle.reach.specs.Search.{codes_of}
-use Rattle.refusal.specs.declared.Refusal.TheVariants.{NotOffered, NoSuchOutcome}
 use Rattle.sitebook.specs.Models.{site_model}
 use Rattle.sitelayout.specs.Layout.{site_format}
 use Rattle.sitelayout.specs.Site.{Site}
-use Rattle.walk.specs.declared.Step.{Step}
-use Rattle.walk.specs.Walker.{opened, standing, walk_run}
 use Rattle.weighing.specs.Discounts.{discount_of}
 use Rattle.weighing.specs.Weighings.{mean, worst}
 use Rattle.wishbook.specs.Book.{Book, book_of}
@@ -35,7 +32,10 @@ abbrev pub crossing_site : Site
 crossing_site = record {
   labels = 2;
   actions = 2;
-  marks = record { mask = 0; raised = 2000; origin = 0 } ∷ (record { mask = 1; raised = 2000; origin = 1 } ∷ (record { mask = 3; raised = 2000; origin = 2 } ∷ []));
+  marks =
+      record { mask = 0; worth = record { raised = 2000; origin = 0 } }
+      ∷ (record { mask = 1; worth = record { raised = 2000; origin = 1 } }
+      ∷ (record { mask = 3; worth = record { raised = 2000; origin = 2 } } ∷ []));
   cells =
       (record { target = 0; weight = 4 } ∷ (record { target = 1; weight = 4 } ∷ []))
       ∷ ([]
@@ -53,37 +53,28 @@ crossing_wishes = record { nodes = Label 1 ∷ (Label 0 ∷ (Previous 1 ∷ (And
 abbrev pub crossing_wish : Book
 crossing_wish = record { nodes = Label 1 ∷ (Label 0 ∷ (Previous 1 ∷ (And 0 2 ∷ []))); wishes = record { node = 3; raised = 265 } ∷ []; items = Held 1 ∷ [] }
 
--- the pile, and its written-out book as a model
+-- the pile
 abbrev pub crossing : Model
 crossing = piled (site_model crossing_site) (Some crossing_wish ∷ [])
 
+-- its states, in the order of the search
+abbrev pub crossing_codes : List ℕ
+crossing_codes = 0 ∷ (65536 ∷ (65537 ∷ (131073 ∷ (1 ∷ []))))
+
+-- its written-out book as a model, whose states are the places in that order
 abbrev pub crossing_book : Model
 crossing_book = site_model (out_book crossing)
 
--- a walk on the pile from its opening
-abbrev pub walked : List ℕ → List Step
-walked ns = walk_run discount_of crossing (standing (opened discount_of crossing)) ns
+abbrev pub places : List ℕ
+places = 0 ∷ (1 ∷ (2 ∷ (3 ∷ (4 ∷ []))))
 
 pub record Marked : Type 0 where
   pub site_reads : reading site_format (bytes_of site_file) ≡ got crossing_site
   pub wish_reads : reading wish_format (bytes_of wish_file) ≡ got crossing_wishes
   pub wish_means : book_of crossing_wishes ≡ crossing_wish
-  pub codes : codes_of crossing ≡ 0 ∷ (65536 ∷ (65537 ∷ (131073 ∷ (1 ∷ []))))
-  pub rewards : map crossing.reward (0 ∷ (65536 ∷ (65537 ∷ (131073 ∷ (1 ∷ []))))) ≡ pos 0 ∷ (pos 0 ∷ (pos 0 ∷ (pos 10 ∷ (pos 0 ∷ []))))
-  -- horizon 2, two slots left, by place in the book
-  pub worths : map (worth_of mean discount_of crossing_book 2 2) (0 ∷ (1 ∷ (2 ∷ (3 ∷ (4 ∷ []))))) ≡ pos 54000 ∷ (pos 142200 ∷ (pos 142200 ∷ (pos 163840 ∷ (pos 54000 ∷ []))))
-  pub choices : map (choice_of mean discount_of crossing_book 2 1) (0 ∷ (1 ∷ (2 ∷ (3 ∷ (4 ∷ []))))) ≡ 0 ∷ (1 ∷ (1 ∷ (0 ∷ (0 ∷ []))))
-  pub at_worst : worth_of worst discount_of crossing_book 2 2 0 ≡ pos 0
-  -- choice 0, outcome 1, choice 1, outcome 0
-  pub walk :
-      walked (0 ∷ (1 ∷ (1 ∷ (0 ∷ []))))
-      ≡ record { refusal = None; sight = record { site = 0; slot = 0; reward = pos 0; total = pos 0 } }
-      ∷ (record { refusal = None; sight = record { site = 1; slot = 1; reward = pos 0; total = pos 0 } }
-      ∷ (record { refusal = None; sight = record { site = 1; slot = 1; reward = pos 0; total = pos 0 } }
-      ∷ (record { refusal = None; sight = record { site = 2; slot = 2; reward = pos 10; total = pos 2250 } } ∷ [])))
-  -- choice 1 at the start; outcome 2 after choice 0
-  pub not_offered : walked (1 ∷ []) ≡ record { refusal = Some NotOffered; sight = record { site = 0; slot = 0; reward = pos 0; total = pos 0 } } ∷ []
-  pub no_such_outcome :
-      walked (0 ∷ (2 ∷ []))
-      ≡ record { refusal = None; sight = record { site = 0; slot = 0; reward = pos 0; total = pos 0 } }
-      ∷ (record { refusal = Some NoSuchOutcome; sight = record { site = 0; slot = 0; reward = pos 0; total = pos 0 } } ∷ [])
+  pub codes : codes_of crossing ≡ crossing_codes
+  pub rewards : map crossing.reward crossing_codes ≡ pos 0 ∷ (pos 0 ∷ (pos 0 ∷ (pos 10 ∷ (pos 0 ∷ []))))
+  -- two slots ahead, place by place: the worths with both slots left, and the choices then
+  pub worths : map (worth_of mean discount_of crossing_book 2 2) places ≡ pos 54000 ∷ (pos 142200 ∷ (pos 142200 ∷ (pos 163840 ∷ (pos 54000 ∷ []))))
+  pub choices : map (choice_of mean discount_of crossing_book 2 1) places ≡ 0 ∷ (1 ∷ (1 ∷ (0 ∷ (0 ∷ []))))
+  pub start_at_worst : worth_of worst discount_of crossing_book 2 2 0 ≡ pos 0
