@@ -16,7 +16,7 @@ mod writing;
 use std::env;
 use std::process::ExitCode;
 
-// A refused book and a wrong command line end with status 1 and no more words.
+// What is refused ends with status 1: `check` tells it as its answer, and `write` as an error.
 fn main(rt: HostRuntime) -> anyhow::Result<ExitCode> {
     let words: Vec<String> = env::args(&rt)?.skip(1).collect(rt.alloc())?;
     match words.as_slice() {

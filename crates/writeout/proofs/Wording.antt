@@ -74,9 +74,9 @@ states_small m law codes (c ∷ cs) k =
       states_small m law codes cs (k + length (cells_below m codes c m.actions)),
     )
 
--- so few words that their number fits the end word
-pub book_small : (m : Model) → Lawful m → (codes : List ℕ) → length codes ≤ 4096 → length (site_words (book_of m codes)) < 2 ^ 28
-book_small m law codes few =
+-- a book has no more words than one of 4,096 states with 8 actions and 8 outcomes each
+pub book_most : (m : Model) → Lawful m → (codes : List ℕ) → length codes ≤ 4096 → length (site_words (book_of m codes)) ≤ 303105
+book_most m law codes few =
     omega (
       arith,
       length-append (mark_words (map (mark_of m) codes)) (cell_words m.actions 0 (cells_of m codes codes)),
@@ -84,3 +84,7 @@ book_small m law codes few =
       length-map codes (mark_of m),
       states_small m law codes codes 0,
     )
+
+-- so few words that their number fits the end word
+pub book_small : (m : Model) → Lawful m → (codes : List ℕ) → length codes ≤ 4096 → length (site_words (book_of m codes)) < 2 ^ 28
+book_small m law codes few = omega (arith, book_most m law codes few)

@@ -1,7 +1,6 @@
-use Rattle.std.proofs.Common.{◌≡◌, ◌*◌, length, take, sym, ap, ◌∙◌, arith, rules}
+use Rattle.std.proofs.Common.{◌≡◌, ◌*◌, length, take, ap, ◌∙◌, arith, rules}
 use Rattle.std.proofs.lemmas.List.{take_at}
-use Rattle.writeout.specs.Tables.{outcome}
-use Rattle.moratennis.proofs.Holding.{told, held}
+use Rattle.moratennis.proofs.Holding.{told, held, passed}
 use Rattle.moratennis.proofs.book.written_out.Goals as goal
 
 pub overflow_mul-written : goal.overflow_mul-written
@@ -28,7 +27,8 @@ returns-in-Ok g c =
 
 pub returns-in-Err : goal.returns-in-Err
 returns-in-Err g c =
-    let m = g.P.SiteModel.meaning c.args.pile.now in
     let codes : length c.as_mut_slice.result.now ≡ 4096 = search rules in
     let bytes : length c.as_mut_slice-2.result.now ≡ 1212424 = search rules in
-    sym (c.write_pile.ensures.answer ∙ ap (λ n. outcome m n (length c.as_mut_slice-2.result.now)) codes ∙ ap (outcome m 4096) bytes) ∙ c.in-Err.is
+    let told = c.write_pile.ensures in
+    let over = passed (g.P.SiteModel.meaning c.args.pile.now) (g.met.P.SiteModel.lawful c.args.pile.now) c.in-Err.refusal c.write_pile.result _ _ codes bytes c.in-Err.is told.answer in
+    (over.0, told.faithful.exceeds 4096 over.1)
