@@ -1,6 +1,6 @@
 -- A walk on a model that unfolds a ground model agrees with the reckoner over it, under every table of discounts and through every list
 -- of numbers: the walk always stands where the reckoner's record leads, in the slot of its end and with its total.
-use Rattle.std.proofs.Common.{◌≡◌, ℕ, zero, suc, ◌+◌, ◌-◌, ◌<◌, ◌≤◌, Bool, true, false, cond, List, [], ◌∷◌, ◌++◌, length, ℤ, pos, ◌+ℤ◌, ◌*ℤ◌, Option, Some, None, sym, refl, ap, ◌∙◌, subst, nat_lt, arith}
+use Rattle.std.proofs.Common.{◌≡◌, ℕ, zero, suc, ◌+◌, ◌-◌, ◌<◌, Bool, true, false, cond, List, [], ◌∷◌, ◌++◌, length, ℤ, pos, ◌+ℤ◌, ◌*ℤ◌, Option, Some, None, sym, refl, ap, ◌∙◌, subst, nat_lt, arith}
 use Rattle.std.specs.List.{ContainsAt as Has, slice_get}
 use Rattle.std.specs.Option.{option_map}
 use Rattle.std.proofs.lemmas.Bool.Decides.{nat_tests}
@@ -10,14 +10,11 @@ use Rattle.std.proofs.lemmas.Option.{slice_get-map, slice_get_within, get_or_fro
 use Rattle.model.specs.declared.Outcome.{Outcome}
 use Rattle.model.specs.Histories.{final, targets_of, History, begun as first, onward, along, Unfolds}
 use Rattle.model.specs.Models.{Model}
+use Rattle.model.proofs.Paths.{some_history}
 use Rattle.refusal.specs.declared.Refusal.TheVariants.{NotOffered, LastSlot}
 use Rattle.walk.specs.Walker.{Stand, Walk, standing, choosing, Turn, goes, refuses, begun, choice, arrived, told, telling, turn, walk_has, run}
 use Rattle.walk.specs.Reckoner.{Reckoner, reckon_choice, reckon_outcome, reckon_by, sum_below, counted_at, total_of, reckoner_has, reckon_run, Agree, AgreesOverAll}
 use Rattle.weighing.specs.Discounts.{discount_of}
-
-some_history : (g : Model) (h : List ℕ) → History g h → 1 ≤ length h
-some_history g h first = omega arith
-some_history g h (onward {h = before} a t hist off has) = omega (arith, length_push before t)
 
 -- the last slot is that of thirteen states
 slots_same : (n : ℕ) → nat_lt (n - 1) 12 ≡ nat_lt n 13
