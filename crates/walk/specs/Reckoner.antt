@@ -51,10 +51,13 @@ total_of discount reward h = sum_below (counted_at discount reward h) (length h)
 abbrev pub reckoner_has : (ℕ → ℕ) → (List ℕ → ℤ) → Reckoner → Sight
 reckoner_has discount reward r = record { site = final r.history; slot = length r.history - 1; reward = reward r.history; total = total_of discount reward r.history }
 
+-- what is told of a number: whether it was refused, and what the reckoner has after it
+abbrev pub reckon_step : (ℕ → ℕ) → (List ℕ → ℤ) → Turn Reckoner → Step
+reckon_step discount reward t = record { refusal = t.refused; sight = reckoner_has discount reward t.next }
+
 unfoldable pub reckon_run : (ℕ → ℕ) → Model → (List ℕ → ℤ) → Reckoner → List ℕ → List Step
 reckon_run discount g reward r [] = []
-reckon_run discount g reward r (n ∷ ns) =
-    record { refusal = (reckon_turn g r n).refused; sight = reckoner_has discount reward (reckon_turn g r n).next } ∷ reckon_run discount g reward (reckon_turn g r n).next ns
+reckon_run discount g reward r (n ∷ ns) = reckon_step discount reward (reckon_turn g r n) ∷ reckon_run discount g reward (reckon_turn g r n).next ns
 
 -- a walk on m and the reckoner over g agree: at the opening, and through every list of numbers, accepted or not
 pub record Agree (discount : ℕ → ℕ) (g m : Model) (reward : List ℕ → ℤ) : Type 0 where
