@@ -9,9 +9,10 @@ use Rattle.formula.specs.declared.Node.{Node}
 use Rattle.formula.specs.Formulas.{formulas, earlier}
 use Rattle.formula.specs.Resting.{root}
 use Rattle.formula.proofs.Marks.{exact}
-use Rattle.model.specs.Histories.{final, History, begun, onward, along, Unfolds}
+use Rattle.model.specs.Histories.{final, History, along, Unfolds}
 use Rattle.model.specs.declared.Outcome.{Outcome}
 use Rattle.model.specs.Models.{Model}
+use Rattle.model.proofs.Paths.{some_history}
 use Rattle.truth.specs.Truth.{Trace}
 use Rattle.truth.proofs.Unfolding.{holds_local}
 use Rattle.wishbook.specs.Book.{Book, items_over}
@@ -29,10 +30,6 @@ use Rattle.layer.specs.Layering.{under, memory, is_layer_state, judged, lifted, 
 use Rattle.layer.specs.Records.{trace_of, end_of, truths, memory_at, code_over, mask_over, reward_over}
 use Rattle.layer.specs.Sizes.{bits_below}
 use Rattle.layer.proofs.Verdicts.{Right, verdicts_right, recalls_at, memory_next, told_at}
-
-some_history : (g : Model) (h : List ℕ) → History g h → 1 ≤ length h
-some_history g h begun = omega arith
-some_history g h (onward {h = before} a t hist off has) = omega (arith, length_push before t)
 
 trace_end : (mask : List ℕ → ℕ) (h : List ℕ) → 1 ≤ length h → trace_of mask h (end_of h) ≡ mask h
 trace_end mask h some = ap mask (take_all (length h - 1 + 1) h (omega arith))

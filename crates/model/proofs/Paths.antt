@@ -1,5 +1,5 @@
 -- A history stands at a state. Where a model unfolds a ground model, each history of the ground model has just one history above it.
-use Rattle.std.proofs.Common.{◌≡◌, ℕ, ◌-◌, ◌<◌, true, List, [], ◌∷◌, ◌++◌, map, length, get_or, ℤ, sym, refl, ap, ◌∙◌, subst, append_assoc, arith}
+use Rattle.std.proofs.Common.{◌≡◌, ℕ, ◌-◌, ◌<◌, ◌≤◌, true, List, [], ◌∷◌, ◌++◌, map, length, get_or, ℤ, sym, refl, ap, ◌∙◌, subst, append_assoc, arith}
 use Rattle.std.specs.List.{ContainsAt as Has}
 use Rattle.std.proofs.ByRecursion.{has_get_or}
 use Rattle.std.proofs.lemmas.List.{length_push, get_or_push, length-map, get_or-map, map-append}
@@ -12,6 +12,11 @@ pub final-push : (h : List ℕ) (t : ℕ) → final (h ++ (t ∷ [])) ≡ t
 final-push h t =
     let last : length (h ++ (t ∷ [])) - 1 ≡ length h = omega (arith, length_push h t) in
     ap (λ k. get_or (h ++ (t ∷ [])) k 0) last ∙ get_or_push h t 0 (length h) refl
+
+-- a history has a state
+pub some_history : (m : Model) (h : List ℕ) → History m h → 1 ≤ length h
+some_history m h begun = omega arith
+some_history m h (onward {h = before} a t hist off has) = omega (arith, length_push before t)
 
 -- a history stands at a state
 pub history_state : (m : Model) → Lawful m → (h : List ℕ) → History m h → m.state (final h) ≡ true
