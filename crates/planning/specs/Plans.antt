@@ -37,7 +37,7 @@ answer_of w m horizon worths choices =
     cond (nat_le horizon 12) (cond (tables_hold m horizon worths choices) (Ok (worth_of w discount_of m horizon horizon m.start)) (Err PlanTableShort)) (Err HorizonTooLong)
 
 -- what is left in the tables: a refusal leaves them untouched
-abbrev pub Left : {X : Type 0} → Result ℤ Refusal → (ℕ → X) → ℕ → List X → List X → Type 0
+abbrev pub Left : {V E X : Type 0} → Result V E → (ℕ → X) → ℕ → List X → List X → Type 0
 Left (Ok v) f n before after = Filled f n before after
 Left (Err r) f n before after = after ≡ before
 

@@ -1,1 +1,2 @@
 pub mod Corresponding
+pub mod Rereading

@@ -1,1 +1,4 @@
 pub mod Corresponding
+pub mod Causes
+pub mod Planning
+pub mod Walking

@@ -2,6 +2,10 @@
 
 #![tactic(auto)]
 
+mod plans;
+mod walks;
 mod writing;
 
+pub use plans::{Planned, Tables, Unplanned, plan_pile};
+pub use walks::{Walks, plan_and_walk};
 pub use writing::write_pile;

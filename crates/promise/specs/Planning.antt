@@ -1,0 +1,72 @@
+-- Planning on the book that is written out of a pile: what is answered, what the tables hold after, and that the choices, taken as a
+-- policy over histories of the ground model, earn exactly the worth, while no policy that chooses from the whole history earns more.
+use Rattle.std.specs.Prelude.{◌≡◌, ℕ, ◌+◌, ◌*◌, List, length, ℤ, ◌≤ℤ◌, Ok, Err, Result}
+use Rattle.model.specs.Models.{Model}
+use Rattle.pile.specs.Piles.{Floor, shown_on}
+use Rattle.planning.specs.Plans.{answer_of, worth_at, choice_at, Left, tabled}
+use Rattle.promise.specs.Corresponding.{book_model, place_in}
+use Rattle.promise.specs.declared.plans.Planned.{Planned}
+use Rattle.promise.specs.declared.plans.ReadBack.{ReadBack}
+use Rattle.promise.specs.declared.plans.Tables.{Tables}
+use Rattle.promise.specs.declared.plans.Unplanned.{Unplanned}
+use Rattle.promise.specs.declared.plans.Unplanned.TheVariants.{Refused, Memory}
+use Rattle.reach.specs.Search.{codes_of}
+use Rattle.refusal.specs.declared.Refusal.{Refusal}
+use Rattle.sitebook.specs.Contents.{contents}
+use Rattle.sitelayout.specs.Layout.{site_words}
+use Rattle.weighing.specs.Discounts.{discount_of}
+use Rattle.weighing.specs.Weighings.{Weigh}
+use Rattle.words.specs.Format.{file}
+use Rattle.worth.specs.Policies.{Policy, Admissible, earns}
+use Rattle.writeout.specs.declared.Written.{Written}
+use Rattle.writeout.specs.Tables.{outcome, out_book, left}
+
+-- what writing out answers over these tables, and what planning on the book answers
+abbrev pub written_in : Model → Tables → Result Written Refusal
+written_in m t = outcome m (length t.codes.now) (length t.bytes.now)
+
+abbrev pub planned_in : Weigh → Model → ℕ → Tables → Result ℤ Refusal
+planned_in w m horizon t = answer_of w (book_model m) horizon (length t.worths.now) (length t.choices.now)
+
+-- the refusal of writing out comes first, then that of planning
+abbrev pub after_writing : Result Written Refusal → Result ℤ Refusal → Result ℤ Refusal
+after_writing (Ok w) answer = answer
+after_writing (Err r) answer = Err r
+
+-- the book that was written reads back; memory may run out where it is written
+abbrev pub ReadsBack : Model → ℕ → ℕ → Result ReadBack Unplanned → Type 0
+ReadsBack m places space (Ok p) = (outcome m places space ≡ Ok p.written) × (contents p.book.book ≡ out_book m)
+ReadsBack m places space (Err (Refused r)) = outcome m places space ≡ Err r
+ReadsBack m places space (Err (Memory e)) = (p : Written) × (outcome m places space ≡ Ok p)
+
+-- memory may run out where the book is written, and is read back
+abbrev pub PlansAs : Weigh → Model → ℕ → Tables → Result Planned Unplanned → Type 0
+PlansAs w m horizon t (Ok p) = (written_in m t ≡ Ok p.written) × (contents p.book.book ≡ out_book m) × (planned_in w m horizon t ≡ Ok p.worth)
+PlansAs w m horizon t (Err (Refused r)) = after_writing (written_in m t) (planned_in w m horizon t) ≡ Err r
+PlansAs w m horizon t (Err (Memory e)) = (p : Written) × (written_in m t ≡ Ok p)
+
+-- the codes and the book, or all 0 where they are refused; the plan, or what was there before
+pub record TablesLeft (w : Weigh) (m : Model) (horizon : ℕ) (result : Result Planned Unplanned) (before after : Tables) : Type 0 where
+  pub codes : after.codes.now ≡ left (written_in m before) (length before.codes.now) (codes_of m)
+  pub bytes : after.bytes.now ≡ left (written_in m before) (length before.bytes.now) (file (site_words (out_book m)))
+  pub worths : Left result (worth_at w (book_model m) horizon) ((horizon + 1) * (book_model m).span) before.worths.now after.worths.now
+  pub choices : Left result (choice_at w (book_model m) horizon) (horizon * (book_model m).span) before.choices.now after.choices.now
+
+-- for a pile m over the ground model g with the floors fs: the choices in the table as a policy over histories of the ground model. It
+-- goes to the listed state that the history leads to, and takes the choice there for the slots left
+abbrev pub plan_policy : Model → List Floor → Model → ℕ → Tables → Policy
+plan_policy g fs m horizon t = tabled t.choices.now (book_model m).span (place_in g fs m) horizon
+
+-- what a policy earns, by the rewards that the truth lines give each history
+abbrev pub earned_on : Weigh → Model → List Floor → ℕ → Policy → ℤ
+earned_on w g fs horizon π = earns w discount_of g (shown_on g fs).reward horizon π
+
+-- the plan names offered actions alone, and earns exactly its worth
+abbrev pub PlanEarns : Weigh → Model → List Floor → Model → ℕ → Tables → Result Planned Unplanned → Type 0
+PlanEarns w g fs m horizon t (Ok p) = Admissible g horizon (plan_policy g fs m horizon t) × (earned_on w g fs horizon (plan_policy g fs m horizon t) ≡ p.worth)
+PlanEarns w g fs m horizon t (Err e) = Unit {0}
+
+-- no policy that chooses from the whole history earns more
+abbrev pub NobodyEarnsMore : Weigh → Model → List Floor → ℕ → Result Planned Unplanned → Type 0
+NobodyEarnsMore w g fs horizon (Ok p) = (π : Policy) → Admissible g horizon π → earned_on w g fs horizon π ≤ℤ p.worth
+NobodyEarnsMore w g fs horizon (Err e) = Unit {0}
