@@ -3,13 +3,13 @@
 use Rattle.std.specs.Prelude.{◌≡◌, ℕ, zero, suc, ◌+◌, ◌-◌, cond, List, [], ◌∷◌, ◌++◌, length, take, ℤ, pos, ◌+ℤ◌, ◌*ℤ◌, Some, None, Option, nat_lt}
 use Rattle.std.specs.List.{slice_get}
 use Rattle.model.specs.declared.Outcome.{Outcome}
-use Rattle.model.specs.Histories.{final}
+use Rattle.model.specs.Histories.{final, Unfolds}
 use Rattle.model.specs.Models.{Model}
-use Rattle.refusal.specs.declared.Refusal.{Refusal}
 use Rattle.refusal.specs.declared.Refusal.TheVariants.{NotOffered, NoSuchOutcome, LastSlot}
 use Rattle.walk.specs.declared.Sight.{Sight}
 use Rattle.walk.specs.declared.Step.{Step}
-use Rattle.walk.specs.Walker.{Turn, standing, opened, walker_has, walk_run}
+use Rattle.walk.specs.Walker.{Turn, goes, refuses, begun, walk_has, run}
+use Rattle.weighing.specs.Discounts.{discount_of}
 
 pub record Reckoner : Type 0 where
   pub history : List ℕ
@@ -21,15 +21,13 @@ begins g = record { history = g.start ∷ []; chosen = None }
 
 -- a choice: refused at thirteen states, then where the ground model does not offer it at the last
 abbrev pub reckon_choice : Model → List ℕ → ℕ → Turn Reckoner
-reckon_choice g h n =
-    cond (nat_lt (length h) 13)
-    (cond (g.offered (final h) n) (record { refused = None; next = record { history = h; chosen = Some n } }) (record { refused = Some NotOffered; next = record { history = h; chosen = None } }))
-    (record { refused = Some LastSlot; next = record { history = h; chosen = None } })
+reckon_choice g h a =
+    cond (nat_lt (length h) 13) (cond (g.offered (final h) a) (goes (record { history = h; chosen = Some a })) (refuses NotOffered (record { history = h; chosen = None }))) (refuses LastSlot (record { history = h; chosen = None }))
 
 -- a told outcome: refused where the open choice has none of that number, and else its target is appended
 abbrev pub reckon_outcome : List ℕ → ℕ → Option Outcome → Turn Reckoner
-reckon_outcome h a (Some o) = record { refused = None; next = record { history = h ++ (o.target ∷ []); chosen = None } }
-reckon_outcome h a None = record { refused = Some NoSuchOutcome; next = record { history = h; chosen = Some a } }
+reckon_outcome h a (Some o) = goes (record { history = h ++ (o.target ∷ []); chosen = None })
+reckon_outcome h a None = refuses NoSuchOutcome (record { history = h; chosen = Some a })
 
 abbrev pub reckon_by : Model → List ℕ → Option ℕ → ℕ → Turn Reckoner
 reckon_by g h None n = reckon_choice g h n
@@ -42,9 +40,13 @@ abbrev pub sum_below : (ℕ → ℤ) → ℕ → ℤ
 sum_below f zero = pos 0
 sum_below f (suc n) = sum_below f n +ℤ f n
 
+-- what the beginning of a history that ends in slot i counts
+abbrev pub counted_at : (ℕ → ℕ) → (List ℕ → ℤ) → List ℕ → ℕ → ℤ
+counted_at discount reward h i = pos (discount i) *ℤ reward (take (i + 1) h)
+
 -- the discounted rewards of the beginnings of a history
 abbrev pub total_of : (ℕ → ℕ) → (List ℕ → ℤ) → List ℕ → ℤ
-total_of discount reward h = sum_below (λ i. pos (discount i) *ℤ reward (take (i + 1) h)) (length h)
+total_of discount reward h = sum_below (counted_at discount reward h) (length h)
 
 abbrev pub reckoner_has : (ℕ → ℕ) → (List ℕ → ℤ) → Reckoner → Sight
 reckoner_has discount reward r = record { site = final r.history; slot = length r.history - 1; reward = reward r.history; total = total_of discount reward r.history }
@@ -54,7 +56,11 @@ reckon_run discount g reward r [] = []
 reckon_run discount g reward r (n ∷ ns) =
     record { refusal = (reckon_turn g r n).refused; sight = reckoner_has discount reward (reckon_turn g r n).next } ∷ reckon_run discount g reward (reckon_turn g r n).next ns
 
--- the walker on m and the reckoner over g always agree: at the opening, and through every list of numbers, accepted or not
+-- a walk on m and the reckoner over g agree: at the opening, and through every list of numbers, accepted or not
 pub record Agree (discount : ℕ → ℕ) (g m : Model) (reward : List ℕ → ℤ) : Type 0 where
-  pub opening : walker_has m (standing (opened discount m)) ≡ reckoner_has discount reward (begins g)
-  pub always : (ns : List ℕ) → walk_run discount m (standing (opened discount m)) ns ≡ reckon_run discount g reward (begins g) ns
+  pub opening : walk_has m (begun discount m) ≡ reckoner_has discount reward (begins g)
+  pub always : (ns : List ℕ) → run discount m (begun discount m) ns ≡ reckon_run discount g reward (begins g) ns
+
+-- over every model that m unfolds
+abbrev pub AgreesOverAll : Model → Type 0
+AgreesOverAll m = (g : Model) (code mask : List ℕ → ℕ) (reward : List ℕ → ℤ) → Unfolds g m code mask reward → Agree discount_of g m reward

@@ -1,0 +1,45 @@
+// A walk along a site model: a choice, then a told outcome, slot by slot.
+
+#![tactic(auto)]
+
+ghost use Rattle.std.specs.Prelude.{◌≡◌};
+
+use refusal::Refusal;
+
+mod looks;
+mod states;
+mod walker;
+
+pub use states::{Chosen, Standing};
+pub use walker::{Turned, Walker};
+
+// What a walk has: the site state, the slot, the reward there and the total.
+#[derive(Clone, Copy, Debug, PartialEq, Eq)]
+pub struct Sight {
+    pub site: u64,
+    pub slot: usize,
+    pub reward: i32,
+    pub total: i32,
+}
+
+// What a number did to a walk, and what the walk has after it.
+#[derive(Clone, Copy, Debug, PartialEq, Eq)]
+pub struct Step {
+    pub refusal: Option<Refusal>,
+    pub sight: Sight,
+}
+
+// A refusal, and the walk as it was before.
+#[derive(Drop)]
+pub struct Refused<W> {
+    pub refusal: Refusal,
+    pub walk: W,
+}
+
+impl<W> Refused<W> {
+    fn new(refusal: Refusal, walk: W) -> Refused<W>
+        ensures { result ≡ record { refusal = refusal; walk = walk } }
+    {
+        Refused { refusal, walk }
+    }
+}

@@ -1,0 +1,63 @@
+// Opening a walk, choosing and closing.
+ghost use Rattle.std.specs.Prelude.{◌≡◌};
+ghost use Rattle.walk.specs.Reckoner.{AgreesOverAll};
+ghost use Rattle.walk.specs.Views.{stand_of, choice_of};
+ghost use Rattle.walk.specs.Walker.{opened, choice, sight_of};
+ghost use Rattle.weighing.specs.Discounts.{discount_of};
+
+use crate::looks::{counted, look};
+use crate::states::{Chosen, Standing};
+use crate::{Refused, Sight};
+use model::SiteModel;
+use refusal::Refusal;
+
+// Nothing can be chosen in the last slot.
+const LAST_SLOT: usize = 12;
+
+impl Standing {
+    // Opens a walk at the model's start. Whatever the numbers that it is then given, it agrees with the reckoner (`agrees`).
+    pub fn open<M: SiteModel>(model: &M) -> Standing
+        ensures stands { stand_of result ≡ opened discount_of (M.SiteModel.meaning model.now) }
+        ensures agrees { AgreesOverAll (M.SiteModel.meaning model.now) }
+    {
+        let state = model.start();
+        Standing {
+            state,
+            slot: 0,
+            total: counted(model, 0, state),
+        }
+    }
+
+    // Chooses an action.
+    pub fn choose<M: SiteModel>(self, model: &M, action: u32) -> Result<Chosen, Refused<Standing>>
+        ensures { choice_of result ≡ choice (M.SiteModel.meaning model.now) (stand_of self) action }
+    {
+        if self.slot >= LAST_SLOT {
+            return Err(Refused::new(Refusal::LastSlot, self));
+        }
+        if !model.offers(self.state, action) {
+            return Err(Refused::new(Refusal::NotOffered, self));
+        }
+        let Standing { state, slot, total } = self;
+        Ok(Chosen {
+            state,
+            slot,
+            total,
+            action,
+        })
+    }
+
+    // What the walk has.
+    pub fn sight<M: SiteModel>(&self, model: &M) -> Sight
+        ensures { result ≡ sight_of (M.SiteModel.meaning model.now) (stand_of self.now) }
+    {
+        look(model, self.state, self.slot, self.total)
+    }
+
+    // Ends the walk, with what it has.
+    pub fn close<M: SiteModel>(self, model: &M) -> Sight
+        ensures { result ≡ sight_of (M.SiteModel.meaning model.now) (stand_of self) }
+    {
+        self.sight(model)
+    }
+}
