@@ -75,8 +75,16 @@ abbrev pub ending : Model → Walk → Result Sight Walk
 ending m (standing s) = Ok (sight_of m s)
 ending m (choosing s a) = Err (choosing s a)
 
--- a run of numbers: after each, whether it was refused, and what the walk has
+-- what is told of a number: whether it was refused, and what the walk has after it
+abbrev pub step : Model → Turn Walk → Step
+step m t = record { refusal = t.refused; sight = walk_has m t.next }
+
+-- a run of numbers: the step of each
 unfoldable pub run : (ℕ → ℕ) → Model → Walk → List ℕ → List Step
 run discount m w [] = []
-run discount m w (n ∷ ns) =
-    record { refusal = (turn discount m w n).refused; sight = walk_has m (turn discount m w n).next } ∷ run discount m (turn discount m w n).next ns
+run discount m w (n ∷ ns) = step m (turn discount m w n) ∷ run discount m (turn discount m w n).next ns
+
+-- where it leads
+unfoldable pub reached : (ℕ → ℕ) → Model → Walk → List ℕ → Walk
+reached discount m w [] = w
+reached discount m w (n ∷ ns) = reached discount m (turn discount m w n).next ns

@@ -7,9 +7,11 @@ ghost use Rattle.std.specs.Prelude.{◌≡◌};
 use refusal::Refusal;
 
 mod looks;
+mod runs;
 mod states;
 mod walker;
 
+pub use runs::replay;
 pub use states::{Chosen, Standing};
 pub use walker::{Turned, Walker};
 
