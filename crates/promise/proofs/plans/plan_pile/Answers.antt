@@ -1,11 +1,12 @@
-use Rattle.std.proofs.Common.{◌≡◌, length, w64, to_z, of_z, subst, sym, rules}
+use Rattle.std.proofs.Common.{◌+◌, ◌*◌, ◌≡◌, length, w64, to_z, of_z, subst, sym, rules}
 use Rattle.pile.specs.Piles.{shown_on}
-use Rattle.planning.specs.Plans.{tabled}
+use Rattle.planning.specs.Plans.{Filled, worth_at, choice_at, tabled}
 use Rattle.sitebook.specs.Contents.{contents}
 use Rattle.weighing.specs.Discounts.{discount_of}
 use Rattle.worth.specs.Policies.{Best}
+use Rattle.writeout.specs.Copies.{by_origin}
 use Rattle.promise.specs.Corresponding.{book_model, place_in}
-use Rattle.promise.proofs.Earning.{best_of_pile}
+use Rattle.promise.proofs.Earning.{best_of_pile, best_in_book}
 use Rattle.promise.proofs.Rereading.{wrote}
 use Rattle.promise.proofs.plans.plan_pile.Goals as goal
 
@@ -28,3 +29,25 @@ returns-clause-earns g c = let b = best g c in (b.admissible, b.exactly)
 
 pub returns-clause-nobody : goal.returns-clause-nobody
 returns-clause-nobody g c = (best g c).nobody
+
+pub returns-clause-tables : goal.returns-clause-tables
+returns-clause-tables g c =
+    let w = g.W.Weighing.meaning c.args.weighing.now in
+    let h = c.args.horizon in
+    let told = c.in_ok-written.ensures in
+    let plan = c.in_ok-worth.ensures in
+    record {
+      codes = told.codes;
+      bytes = told.bytes;
+      worths = subst (λ b. Filled (worth_at w (by_origin b) h) ((h + 1) * (by_origin b).span) c.args.tables.now.worths.now c.plan.new.worths) told.answer.1 plan.worths;
+      choices = subst (λ b. Filled (choice_at w (by_origin b) h) (h * (by_origin b).span) c.args.tables.now.choices.now c.plan.new.choices) told.answer.1 plan.choices;
+    }
+
+pub returns-in_err-written-clause-best : goal.returns-in_err-written-clause-best
+returns-in_err-written-clause-best g c = best_in_book (g.P.Pile.base c.args.pile.now) (g.P.Pile.floors c.args.pile.now) (g.P.SiteModel.meaning c.args.pile.now) c.written_book.ensures.faithful c.written_book.ensures.corresponds
+
+pub returns-in_err-worth-clause-best : goal.returns-in_err-worth-clause-best
+returns-in_err-worth-clause-best g c = best_in_book (g.P.Pile.base c.args.pile.now) (g.P.Pile.floors c.args.pile.now) (g.P.SiteModel.meaning c.args.pile.now) c.written_book.ensures.faithful c.written_book.ensures.corresponds
+
+pub returns-clause-best : goal.returns-clause-best
+returns-clause-best g c = best_in_book (g.P.Pile.base c.args.pile.now) (g.P.Pile.floors c.args.pile.now) (g.P.SiteModel.meaning c.args.pile.now) c.written_book.ensures.faithful c.written_book.ensures.corresponds
