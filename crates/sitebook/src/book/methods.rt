@@ -56,7 +56,7 @@ fn gathered(moves: &[Move]) -> Outcomes
             weight: way.weight,
         };
         if all.push(outcome).is_err() {
-            break;
+            return all;
         }
     }
     all
