@@ -4,6 +4,7 @@
 
 mod book;
 mod clock;
+mod slots;
 
 ghost use Rattle.std.specs.Prelude.{◌≡◌, IfOk};
 ghost use Rattle.std.specs.Process.{exit_status};
@@ -12,8 +13,10 @@ use anyhow::ensure;
 use book::{STATES, full_size};
 use clock::{Millis, ROUNDS, best};
 use sitebook::read_site;
+use slots::planning;
 use std::env;
 use std::process::ExitCode;
+use weighing::{Mean, Worst};
 use writeout::write_out;
 
 fn main(rt: HostRuntime) -> anyhow::Result<ExitCode> {
@@ -31,7 +34,8 @@ fn main(rt: HostRuntime) -> anyhow::Result<ExitCode> {
     }
 }
 
-const USAGE: &str = "usage: bench run   best times of reading and of writing out a full-size book";
+const USAGE: &str =
+    "usage: bench run   best times of reading, writing out and planning a full-size book";
 
 fn usage(rt: &HostRuntime) -> anyhow::Result<ExitCode>
     ensures { IfOk result (λ code. exit_status code ≡ 1) }
@@ -40,7 +44,7 @@ fn usage(rt: &HostRuntime) -> anyhow::Result<ExitCode>
     Ok(ExitCode::FAILURE)
 }
 
-// Reads the book and writes it out.
+// Reads the book, writes it out and plans on it.
 fn run(rt: &HostRuntime) -> anyhow::Result<()> {
     let heap = rt.alloc();
     let file = full_size(heap)?;
@@ -66,5 +70,10 @@ fn run(rt: &HostRuntime) -> anyhow::Result<()> {
         Ok(())
     })?;
     println!(rt; "  writing out  {} ms", Millis(writing))?;
+    println!(rt; "  mean plan    {} ms", Millis(planning(rt, &book, &Mean)?))?;
+    println!(rt;
+        "  worst plan   {} ms",
+        Millis(planning(rt, &book, &Worst)?)
+    )?;
     Ok(())
 }

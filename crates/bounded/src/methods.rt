@@ -60,11 +60,12 @@ impl<T: Copy, const MOST: usize> Bounded<T, MOST> {
         ensures full { OnErr result (self.new ≡ self.old) }
         ensures back { IfErr result (λ x. x ≡ item) }
     {
-        if self.len == MOST {
+        let len = self.len;
+        if len == MOST {
             return Err(item);
         }
-        self.places[self.len] = item;
-        self.len += 1;
+        self.places[len] = item;
+        self.len = len + 1;
         Ok(())
     }
 
