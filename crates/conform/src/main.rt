@@ -7,7 +7,10 @@ mod failure;
 mod kind;
 mod lay;
 mod lists;
+mod numbers;
 mod out;
+mod plan;
+mod walk;
 
 ghost use Rattle.std.specs.Prelude.{◌<◌, IfOk};
 
@@ -43,6 +46,8 @@ fn answer(heap: Global, line: &str) -> Result<String, Failure> {
     match command {
         "lay" => lay::answer(heap, rest),
         "out" => out::answer(heap, rest),
+        "plan" => plan::answer(heap, rest),
+        "walk" => walk::answer(heap, rest),
         _ => book(heap, command.parse()?, rest),
     }
 }
