@@ -40,15 +40,14 @@ fn run(rt: &HostRuntime) -> anyhow::Result<()> {
 
 // The answer to one command.
 fn answer(heap: Global, line: &str) -> Result<String, Failure> {
-    let Some((command, rest)) = line.split_once(' ') else {
-        return Err(Failure::Unknown);
-    };
-    match command {
-        "lay" => lay::answer(heap, rest),
-        "out" => out::answer(heap, rest),
-        "plan" => plan::answer(heap, rest),
-        "walk" => walk::answer(heap, rest),
-        _ => book(heap, command.parse()?, rest),
+    let words: Vec<&str> = line.split(' ').collect(heap)?;
+    match words.as_slice() {
+        ["lay", words @ ..] => lay::answer(heap, words),
+        ["out", words @ ..] => out::answer(heap, words),
+        ["plan", words @ ..] => plan::answer(heap, words),
+        ["walk", words @ ..] => walk::answer(heap, words),
+        [kind, hex] => book(heap, kind.parse()?, hex),
+        _ => Err(Failure::Unknown),
     }
 }
 

@@ -10,9 +10,8 @@ use std::alloc::Global;
 pub const BEFORE: u8 = 7;
 
 // `KIND HEX CODES BYTES HEX ..`: a ground model, how long the two tables are, and wish books to be laid on it.
-pub fn answer(heap: Global, words: &str) -> Result<String, Failure> {
-    let parts: Vec<&str> = words.split(' ').collect(heap)?;
-    let [kind, hex, codes, bytes, wishes @ ..] = parts.as_slice() else {
+pub fn answer(heap: Global, words: &[&str]) -> Result<String, Failure> {
+    let [kind, hex, codes, bytes, wishes @ ..] = words else {
         return Err(Failure::Unknown);
     };
     let (codes, bytes) = (places(codes)?, places(bytes)?);

@@ -17,9 +17,8 @@ const WORDS: usize = 1 + 2 * STATES + 8 * 9 * STATES + 1;
 
 // `KIND HEX HORIZON mean|worst WORTHS CHOICES HEX ..`: a ground model, how many slots are left, how an action's outcomes are joined, how
 // long the two tables are, and wish books to be laid on it.
-pub fn answer(heap: Global, words: &str) -> Result<String, Failure> {
-    let parts: Vec<&str> = words.split(' ').collect(heap)?;
-    let [kind, hex, horizon, weighing, worths, choices, wishes @ ..] = parts.as_slice() else {
+pub fn answer(heap: Global, words: &[&str]) -> Result<String, Failure> {
+    let [kind, hex, horizon, weighing, worths, choices, wishes @ ..] = words else {
         return Err(Failure::Unknown);
     };
     let horizon = number(horizon)? as usize;

@@ -82,9 +82,8 @@ impl Call {
 }
 
 // `KIND HEX CALLS HEX ..`: a ground model, calls as `c0,t1` or `-`, and wish books to be laid on it.
-pub fn answer(heap: Global, words: &str) -> Result<String, Failure> {
-    let parts: Vec<&str> = words.split(' ').collect(heap)?;
-    let [kind, hex, calls, wishes @ ..] = parts.as_slice() else {
+pub fn answer(heap: Global, words: &[&str]) -> Result<String, Failure> {
+    let [kind, hex, calls, wishes @ ..] = words else {
         return Err(Failure::Unknown);
     };
     let calls = calls_of(heap, calls)?;

@@ -39,7 +39,7 @@ fn wish(heap: Global, words: &[u32]) -> Result<WishBook, Unread> {
     Ok(read_wish(bytes_of(heap, words)?.as_slice())?)
 }
 
-// Why a book is not laid on a site of its own, if it is not.
+// Why a book is not laid on the site that waits, if it is not.
 fn laying(heap: Global, words: &[u32]) -> Result<Option<Refusal>, Unread> {
     let ground = Footing::new(site(heap, &WAITING)?);
     Ok(Layer::new(ground, Some(wish(heap, words)?)).refusal())
