@@ -1,4 +1,5 @@
 // What is answered where a command is not carried out.
+use promise::Unplanned;
 use refusal::{Fault, Refusal, Unread};
 use std::alloc::{AllocError, AllocFailed};
 use std::fmt;
@@ -8,6 +9,7 @@ use std::fmt;
 pub enum Failure {
     Unknown,
     Unreadable,
+    Unwritable,
     Faulty(Fault),
     Refused(Refusal),
     Memory,
@@ -18,6 +20,7 @@ impl fmt::Display for Failure {
         match self {
             Failure::Unknown => f.write_str("unknown"),
             Failure::Unreadable => f.write_str("unreadable"),
+            Failure::Unwritable => f.write_str("unwritable"),
             Failure::Faulty(fault) => {
                 write!(f, "refused {} {}", fault.refusal.number(), fault.place)
             }
@@ -45,6 +48,19 @@ impl From<Fault> for Failure {
 impl From<Refusal> for Failure {
     fn from(refusal: Refusal) -> Failure {
         Failure::Refused(refusal)
+    }
+}
+
+// Where the book is not written out there is nothing to plan on, and which table was too short is not told.
+impl From<Unplanned> for Failure {
+    fn from(why: Unplanned) -> Failure {
+        match why {
+            Unplanned::Refused(Refusal::TooManyStates | Refusal::BookTableShort) => {
+                Failure::Unwritable
+            }
+            Unplanned::Refused(refusal) => Failure::Refused(refusal),
+            Unplanned::Memory(_) => Failure::Memory,
+        }
     }
 }
 

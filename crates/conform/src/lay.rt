@@ -5,9 +5,8 @@ use model::SiteModel;
 use std::alloc::Global;
 
 // `KIND HEX HEX ..`: a ground model, and wish books to be laid on it.
-pub fn answer(heap: Global, words: &str) -> Result<String, Failure> {
-    let parts: Vec<&str> = words.split(' ').collect(heap)?;
-    let [kind, hex, wishes @ ..] = parts.as_slice() else {
+pub fn answer(heap: Global, words: &[&str]) -> Result<String, Failure> {
+    let [kind, hex, wishes @ ..] = words else {
         return Err(Failure::Unknown);
     };
     let built = build(heap, kind, hex, wishes)?;

@@ -1,14 +1,17 @@
 // Tables as answers show them.
 use std::fmt;
 
-// Numbers, as `3,1,2`; `-` for none.
+// Numbers, as `3,1,2`, or what stands for none.
 #[derive(Clone, Copy)]
-pub struct Numbers<'a, T>(pub &'a [T]);
+pub struct Numbers<'a, T> {
+    pub all: &'a [T],
+    pub none: &'static str,
+}
 
 impl<T: fmt::Display> fmt::Display for Numbers<'_, T> {
     fn fmt<W: fmt::Write>(&self, f: &mut fmt::Formatter<W>) -> fmt::Result {
-        let Some((first, others)) = self.0.split_first() else {
-            return f.write_str("-");
+        let Some((first, others)) = self.all.split_first() else {
+            return f.write_str(self.none);
         };
         write!(f, "{first}")?;
         for number in others {

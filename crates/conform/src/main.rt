@@ -7,7 +7,10 @@ mod failure;
 mod kind;
 mod lay;
 mod lists;
+mod numbers;
 mod out;
+mod plan;
+mod walk;
 
 ghost use Rattle.std.specs.Prelude.{◌<◌, IfOk};
 
@@ -37,13 +40,14 @@ fn run(rt: &HostRuntime) -> anyhow::Result<()> {
 
 // The answer to one command.
 fn answer(heap: Global, line: &str) -> Result<String, Failure> {
-    let Some((command, rest)) = line.split_once(' ') else {
-        return Err(Failure::Unknown);
-    };
-    match command {
-        "lay" => lay::answer(heap, rest),
-        "out" => out::answer(heap, rest),
-        _ => book(heap, command.parse()?, rest),
+    let words: Vec<&str> = line.split(' ').collect(heap)?;
+    match words.as_slice() {
+        ["lay", words @ ..] => lay::answer(heap, words),
+        ["out", words @ ..] => out::answer(heap, words),
+        ["plan", words @ ..] => plan::answer(heap, words),
+        ["walk", words @ ..] => walk::answer(heap, words),
+        [kind, hex] => book(heap, kind.parse()?, hex),
+        _ => Err(Failure::Unknown),
     }
 }
 

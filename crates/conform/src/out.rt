@@ -2,17 +2,16 @@
 use crate::built::build;
 use crate::failure::Failure;
 use crate::lists::{Hex, Numbers};
+use crate::numbers::places;
 use promise::write_pile;
 use std::alloc::Global;
-use std::str::FromStr;
 
 // What both tables hold before, so that a place that is not cleared shows.
-const BEFORE: u8 = 7;
+pub const BEFORE: u8 = 7;
 
 // `KIND HEX CODES BYTES HEX ..`: a ground model, how long the two tables are, and wish books to be laid on it.
-pub fn answer(heap: Global, words: &str) -> Result<String, Failure> {
-    let parts: Vec<&str> = words.split(' ').collect(heap)?;
-    let [kind, hex, codes, bytes, wishes @ ..] = parts.as_slice() else {
+pub fn answer(heap: Global, words: &[&str]) -> Result<String, Failure> {
+    let [kind, hex, codes, bytes, wishes @ ..] = words else {
         return Err(Failure::Unknown);
     };
     let (codes, bytes) = (places(codes)?, places(bytes)?);
@@ -20,12 +19,10 @@ pub fn answer(heap: Global, words: &str) -> Result<String, Failure> {
     let mut codes = vec![in heap; BEFORE as u64; codes]?;
     let mut bytes = vec![in heap; BEFORE; bytes]?;
     let written = write_pile(&built.pile, codes.as_mut_slice(), bytes.as_mut_slice())?;
-    let codes = Numbers(codes.as_slice());
+    let codes = Numbers {
+        all: codes.as_slice(),
+        none: "-",
+    };
     let bytes = Hex(bytes.as_slice());
     Ok(format!(in heap; "ok {} {} {codes} {bytes}", written.states, written.words)?)
-}
-
-// How many places a table has.
-pub fn places(word: &str) -> Result<usize, Failure> {
-    usize::from_str(word).map_err(|_| Failure::Unknown)
 }
