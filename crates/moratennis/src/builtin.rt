@@ -3,6 +3,7 @@ use crate::book::written_out;
 use crate::build::refused;
 use crate::show;
 use anyhow::Context;
+use crossing::{site_words, wish_words};
 use ground::GroundBook;
 use model::{SiteModel, reachable_at};
 use pile::{Three, stack, start_of};
@@ -10,16 +11,6 @@ use sitebook::read_site;
 use truth::shows;
 use wishbook::read_wish;
 use words::bytes_of;
-
-const SITE: [u32; 18] = [
-    0x10084003, 0x20000000, 0x300007D0, 0x20000001, 0x300017D0, 0x20000003, 0x300027D0, 0x40010000,
-    0x50004000, 0x50004001, 0x40008001, 0x50008001, 0x40011001, 0x50006002, 0x50002001, 0x40008002,
-    0x50008000, 0xF0000011,
-];
-
-const WISH: [u32; 6] = [
-    0x10000001, 0x10000000, 0x50000001, 0x30000200, 0xA0010903, 0xF0000005,
-];
 
 // A crossing with two trains on the bridge at once: the second comes on in slot 2, before the first has left. Each step is an action
 // and the number of its outcome.
@@ -29,10 +20,10 @@ const STEPS: [(u32, usize); 5] = [(0, 1), (0, 0), (1, 0), (0, 0), (0, 0)];
 pub fn run(rt: &HostRuntime) -> anyhow::Result<()> {
     let heap = rt.alloc();
     println!(rt; "the built-in crossing: label p0 is \"train\", label p1 is \"swept\"")?;
-    let site = read_site(heap, bytes_of(heap, &SITE)?.as_slice())?;
+    let site = read_site(heap, bytes_of(heap, &site_words())?.as_slice())?;
     println!(rt; "site book:")?;
     show::states(rt, &site)?;
-    let wish = read_wish(bytes_of(heap, &WISH)?.as_slice())?;
+    let wish = read_wish(bytes_of(heap, &wish_words())?.as_slice())?;
     println!(rt; "wish book:")?;
     show::wishes(rt, &wish)?;
     let pile = stack(GroundBook::Site(site), Some(wish), None, None);

@@ -7,8 +7,8 @@ ghost use Rattle.std.specs.Process.{exit_status};
 
 mod book;
 mod build;
+mod builtin;
 mod check;
-mod crossing;
 mod options;
 mod show;
 mod writing;
@@ -21,7 +21,7 @@ fn main(rt: HostRuntime) -> anyhow::Result<ExitCode> {
     let words: Vec<String> = env::args(&rt)?.skip(1).collect(rt.alloc())?;
     match words.as_slice() {
         [] => {
-            crossing::run(&rt)?;
+            builtin::run(&rt)?;
             Ok(ExitCode::SUCCESS)
         }
         [command, kind, file] if command.as_str() == "check" => check::run(
