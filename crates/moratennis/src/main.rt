@@ -9,8 +9,12 @@ mod book;
 mod build;
 mod builtin;
 mod check;
+mod figure;
 mod options;
+mod plan;
 mod show;
+mod slots;
+mod walking;
 mod writing;
 
 use std::env;
@@ -33,6 +37,14 @@ fn main(rt: HostRuntime) -> anyhow::Result<ExitCode> {
             writing::run(&rt, options)?;
             Ok(ExitCode::SUCCESS)
         }
+        [command, options @ ..] if command.as_str() == "plan" => {
+            slots::run(&rt, options)?;
+            Ok(ExitCode::SUCCESS)
+        }
+        [command, options @ ..] if command.as_str() == "walk" => {
+            walking::run(&rt, options)?;
+            Ok(ExitCode::SUCCESS)
+        }
         _ => usage(&rt),
     }
 }
@@ -48,6 +60,12 @@ fn usage(rt: &HostRuntime) -> anyhow::Result<ExitCode>
     )?;
     rt.eprintln(
         "       moratennis write GROUND.. --to FILE    writes the site book of all that is reachable",
+    )?;
+    rt.eprintln(
+        "       moratennis plan GROUND.. --horizon N --weighing mean|worst   the best choices for N slots",
+    )?;
+    rt.eprintln(
+        "       moratennis walk GROUND.. [--horizon N] [--weighing mean|worst]   walks by numbers that it reads: a choice, then its outcome",
     )?;
     rt.eprintln(
         "GROUND..: --site FILE or --rule FILE, and up to three wish books laid on it, --wish FILE",

@@ -1,8 +1,10 @@
 // Books and formulas as people read them.
+use crate::plan::Plan;
 use formula::Node;
-use model::{Numbered, Outcome};
+use model::{Numbered, Outcome, SiteModel};
 use std::fmt;
 use truth::shows;
+use walk::{Sight, Walker};
 use wishbook::WishBook;
 
 // The labels of a mask, as `p0 p3`, or `-` where there are none. Joined by hand, as `Leads` is: the library joins on a heap.
@@ -93,6 +95,84 @@ pub fn states<M: Numbered>(rt: &impl Print, model: &M) -> anyhow::Result<()> {
                 println!(rt; "    action {a} leads to {leads}")?;
             }
         }
+    }
+    Ok(())
+}
+
+// How large a plan is, what its start is worth, and what to do slot by slot: a line for each listed state, a column for each slot.
+pub fn plan(rt: &impl Print, plan: &Plan) -> anyhow::Result<()> {
+    let Plan {
+        planned,
+        horizon,
+        unit,
+        ..
+    } = plan;
+    let states = planned.written.states;
+    let worth = planned.worth;
+    let figure = plan.figure();
+    let kind = if *unit == 1 { "least" } else { "expected" };
+    println!(rt; "a plan of {horizon} slots on a book of {states} states")?;
+    println!(rt; "the start is worth {worth}: the {kind} sum of discounted rewards is {figure}")?;
+    println!(rt; "what to do in each state, slot by slot:")?;
+    println!(rt; "{}", Head(*horizon))?;
+    for state in 0..planned.book.count() as u64 {
+        println!(rt; "{}", Row { plan, state })?;
+    }
+    Ok(())
+}
+
+// The head of the choices.
+#[derive(Clone, Copy)]
+struct Head(usize);
+
+impl fmt::Display for Head {
+    fn fmt<W: fmt::Write>(&self, f: &mut fmt::Formatter<W>) -> fmt::Result {
+        f.write_str("state  site state")?;
+        for slot in 0..self.0 {
+            write!(f, "  slot {slot:<2}")?;
+        }
+        f.write_str("  labels")
+    }
+}
+
+// What to do in a listed state.
+#[derive(Clone, Copy)]
+struct Row<'a> {
+    plan: &'a Plan,
+    state: u64,
+}
+
+impl fmt::Display for Row<'_> {
+    fn fmt<W: fmt::Write>(&self, f: &mut fmt::Formatter<W>) -> fmt::Result {
+        let Row { plan, state } = self;
+        let book = &plan.planned.book;
+        let site = book.ground(*state);
+        let labels = Labels(book.mask(*state));
+        write!(f, "{state:>5}  {site:>10}")?;
+        for slot in 0..plan.horizon {
+            let action = plan.advice(slot, *state).unwrap_or(0);
+            write!(f, "  {action:<7}")?;
+        }
+        write!(f, "  {labels}")
+    }
+}
+
+// Where a walk stands, and what the plan advises there.
+pub fn stand(rt: &impl Print, plan: &Plan, walker: &Walker) -> anyhow::Result<()> {
+    let Sight {
+        site,
+        slot,
+        reward,
+        total,
+    } = walker.sight(&plan.planned.book);
+    println!(rt; "  Slot {slot}: site state {site}, reward {reward}, total {total}.")?;
+    if walker.is_choosing() {
+        println!(rt; "  The outcome of the choice is to be told.")?;
+        return Ok(());
+    }
+    match plan.advice(slot, walker.state()) {
+        Some(action) => println!(rt; "  The plan advises action {action}.")?,
+        None => println!(rt; "  The plan ends here.")?,
     }
     Ok(())
 }
