@@ -3,6 +3,7 @@ use Rattle.std.proofs.Common.{◌≡◌, length, refl, ◌∙◌, ap, arith}
 use Rattle.reach.specs.Search.{listed_after, codes_of}
 use Rattle.reach.proofs.Turns.{listed_complete}
 use Rattle.sitelayout.specs.Layout as site
+use Rattle.walk.specs.Walker as walker
 use Rattle.wishlayout.specs.Layout as wish
 use Rattle.words.specs.Format as format
 use Rattle.worth.specs.Worths.{worth_by}
@@ -17,7 +18,7 @@ codes : codes_of crossing ≡ crossing_codes
 codes = listed_complete crossing 5 (omega arith) (omega (arith, ap length turned)) ∙ turned
 
 pub marked : Marked
-unfolding format.run site.read_word site.whole_book wish.read_word wish.whole_book worth_by
+unfolding format.run site.read_word site.whole_book wish.read_word wish.whole_book worth_by walker.run
 marked = record {
   site_reads = refl;
   wish_reads = refl;
@@ -27,4 +28,7 @@ marked = record {
   worths = rw codes;
   choices = rw codes;
   start_at_worst = rw codes;
+  walk = refl;
+  not_offered = refl;
+  no_such_outcome = refl;
 }

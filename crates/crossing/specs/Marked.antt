@@ -1,15 +1,18 @@
 -- The built-in crossing, computed: three states (no train, a train, a train that was swept) and the wish "swept and previous train"
--- worth 10. `Marked` is one theorem about the definitions: what the words read as, the listed codes and rewards of the pile, and the
--- worths and choices of its written-out book.
-use Rattle.std.specs.Prelude.{◌≡◌, ℕ, List, [], ◌∷◌, map, pos, Some}
+-- worth 10. `Marked` is one theorem about the definitions: what the words read as, the listed codes and rewards of the pile, the
+-- worths and choices of its written-out book, and walks on the pile.
+use Rattle.std.specs.Prelude.{◌≡◌, ℕ, List, [], ◌∷◌, map, pos, Some, None}
 use Rattle.formula.specs.declared.Item.TheVariants.{Held}
 use Rattle.formula.specs.declared.Node.TheVariants.{Label, And, Previous}
 use Rattle.model.specs.Models.{Model}
 use Rattle.pile.specs.Piles.{piled}
 use Rattle.reach.specs.Search.{codes_of}
+use Rattle.refusal.specs.declared.Refusal.TheVariants.{NotOffered, NoSuchOutcome}
 use Rattle.sitebook.specs.Models.{site_model}
 use Rattle.sitelayout.specs.Layout.{site_format}
 use Rattle.sitelayout.specs.Site.{Site}
+use Rattle.walk.specs.declared.Step.{Step}
+use Rattle.walk.specs.Walker.{begun, run}
 use Rattle.weighing.specs.Discounts.{discount_of}
 use Rattle.weighing.specs.Weighings.{mean, worst}
 use Rattle.wishbook.specs.Book.{Book, book_of}
@@ -68,6 +71,10 @@ crossing_book = site_model (out_book crossing)
 abbrev pub places : List ℕ
 places = 0 ∷ (1 ∷ (2 ∷ (3 ∷ (4 ∷ []))))
 
+-- a walk on the pile from its opening
+abbrev pub walked : List ℕ → List Step
+walked ns = run discount_of crossing (begun discount_of crossing) ns
+
 pub record Marked : Type 0 where
   pub site_reads : reading site_format (bytes_of site_file) ≡ got crossing_site
   pub wish_reads : reading wish_format (bytes_of wish_file) ≡ got crossing_wishes
@@ -78,3 +85,16 @@ pub record Marked : Type 0 where
   pub worths : map (worth_of mean discount_of crossing_book 2 2) places ≡ pos 54000 ∷ (pos 142200 ∷ (pos 142200 ∷ (pos 163840 ∷ (pos 54000 ∷ []))))
   pub choices : map (choice_of mean discount_of crossing_book 2 1) places ≡ 0 ∷ (1 ∷ (1 ∷ (0 ∷ (0 ∷ []))))
   pub start_at_worst : worth_of worst discount_of crossing_book 2 2 0 ≡ pos 0
+  -- a walk: choice 0, outcome 1, choice 1, outcome 0
+  pub walk :
+      walked (0 ∷ (1 ∷ (1 ∷ (0 ∷ []))))
+      ≡ record { refusal = None; sight = record { site = 0; slot = 0; reward = pos 0; total = pos 0 } }
+      ∷ (record { refusal = None; sight = record { site = 1; slot = 1; reward = pos 0; total = pos 0 } }
+      ∷ (record { refusal = None; sight = record { site = 1; slot = 1; reward = pos 0; total = pos 0 } }
+      ∷ (record { refusal = None; sight = record { site = 2; slot = 2; reward = pos 10; total = pos 2250 } } ∷ [])))
+  -- choice 1 at the start is refused with 18, and outcome 2 after choice 0 with 19
+  pub not_offered : walked (1 ∷ []) ≡ record { refusal = Some NotOffered; sight = record { site = 0; slot = 0; reward = pos 0; total = pos 0 } } ∷ []
+  pub no_such_outcome :
+      walked (0 ∷ (2 ∷ []))
+      ≡ record { refusal = None; sight = record { site = 0; slot = 0; reward = pos 0; total = pos 0 } }
+      ∷ (record { refusal = Some NoSuchOutcome; sight = record { site = 0; slot = 0; reward = pos 0; total = pos 0 } } ∷ [])

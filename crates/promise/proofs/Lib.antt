@@ -1,2 +1,4 @@
 pub mod Corresponding
 pub mod Rereading
+pub mod Earning
+pub mod Agreeing

@@ -1,6 +1,6 @@
 -- What writing out leaves in the byte table reads back. For others: `Wrote` and `wrote`, that the states of a book that was written are
 -- few and its words fit; `rereads`.
-use Rattle.std.proofs.Common.{◌≡◌, ℕ, ◌+◌, ◌-◌, ◌*◌, ◌≤◌, Bool, true, false, cond, [], ◌∷◌, ◌++◌, length, take, replicate, Ok, Err, Result, ltb, min, sym, ap, ◌∙◌, ⊎_elim, arith}
+use Rattle.std.proofs.Common.{◌≡◌, ℕ, ◌-◌, ◌*◌, ◌≤◌, true, false, cond, [], ◌∷◌, ◌++◌, length, take, replicate, Ok, Err, Result, ltb, min, sym, ap, ◌∙◌, ⊎_elim, arith}
 use Rattle.std.proofs.lemmas.Bool.{ltb-false, cond-true, cond-false, cases_Bool}
 use Rattle.std.proofs.lemmas.List.{take-append-le, take_all, length_push}
 use Rattle.model.specs.Models.{Model}

@@ -15,11 +15,12 @@ use Rattle.refusal.specs.declared.Refusal.{Refusal}
 use Rattle.sitebook.specs.Contents.{contents}
 use Rattle.sitelayout.specs.Layout.{site_words}
 use Rattle.weighing.specs.Discounts.{discount_of}
-use Rattle.weighing.specs.Weighings.{Weigh}
+use Rattle.weighing.specs.Weighings.{Weigh, LawfulWeigh}
 use Rattle.words.specs.Format.{file}
-use Rattle.worth.specs.Policies.{Policy, Admissible, earns}
+use Rattle.worth.specs.Policies.{Policy, Admissible, earns, Best, planned}
+use Rattle.worth.specs.Worths.{worth_of}
 use Rattle.writeout.specs.declared.Written.{Written}
-use Rattle.writeout.specs.Tables.{outcome, out_book, left}
+use Rattle.writeout.specs.Tables.{Writable, outcome, out_book, left}
 
 -- what writing out answers over these tables, and what planning on the book answers
 abbrev pub written_in : Model → Tables → Result Written Refusal
@@ -70,3 +71,10 @@ PlanEarns w g fs m horizon t (Err e) = Unit {0}
 abbrev pub NobodyEarnsMore : Weigh → Model → List Floor → ℕ → Result Planned Unplanned → Type 0
 NobodyEarnsMore w g fs horizon (Ok p) = (π : Policy) → Admissible g horizon π → earned_on w g fs horizon π ≤ℤ p.worth
 NobodyEarnsMore w g fs horizon (Err e) = Unit {0}
+
+-- where the pile can be written out, this holds of the definitions for every lawful weighing and every horizon, whether or not memory
+-- and tables sufficed: the plan on its book is the best
+abbrev pub BestInBook : Model → List Floor → Model → Type 0
+BestInBook g fs m =
+    Writable m → (w : Weigh) → LawfulWeigh w → (horizon : ℕ)
+    → Best w discount_of g (shown_on g fs).reward horizon (planned w discount_of (book_model m) (place_in g fs m) horizon) (worth_of w discount_of (book_model m) horizon horizon (book_model m).start)

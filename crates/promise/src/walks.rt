@@ -1,6 +1,6 @@
 // The whole promise.
 ghost use Rattle.promise.specs.Corresponding.{Corresponds};
-ghost use Rattle.promise.specs.Planning.{NobodyEarnsMore, PlanEarns, PlansAs, TablesLeft};
+ghost use Rattle.promise.specs.Planning.{BestInBook, NobodyEarnsMore, PlanEarns, PlansAs, TablesLeft};
 ghost use Rattle.promise.specs.Walking.{AgreeInBook, AgreeOnPile, StepsLeft};
 ghost use Rattle.writeout.specs.Tables.{Faithfully};
 
@@ -38,6 +38,7 @@ pub fn plan_and_walk<P: Pile, W: Weighing>(
     ensures corresponds { Corresponds (P.Pile.base pile.now) (P.Pile.floors pile.now) (P.SiteModel.meaning pile.now) }
     ensures agrees_on_pile { AgreeOnPile (P.Pile.base pile.now) (P.Pile.floors pile.now) (P.SiteModel.meaning pile.now) }
     ensures agrees_in_book { AgreeInBook (P.Pile.base pile.now) (P.Pile.floors pile.now) (P.SiteModel.meaning pile.now) }
+    ensures best { BestInBook (P.Pile.base pile.now) (P.Pile.floors pile.now) (P.SiteModel.meaning pile.now) }
     ensures earns { PlanEarns (W.meaning weighing.now) (P.Pile.base pile.now) (P.Pile.floors pile.now) (P.SiteModel.meaning pile.now) horizon tables.new result }
     ensures nobody { NobodyEarnsMore (W.meaning weighing.now) (P.Pile.base pile.now) (P.Pile.floors pile.now) horizon result }
 {

@@ -1,4 +1,4 @@
-use Rattle.std.proofs.Common.{◌≡◌, ℕ, ◌*◌, length, take, Ok, Err, Result, sym, ap, ◌∙◌, subst, rules}
+use Rattle.std.proofs.Common.{◌≡◌, ℕ, ◌*◌, length, take, Ok, Err, sym, ap, ◌∙◌, subst, rules}
 use Rattle.model.specs.Models.{Model}
 use Rattle.pen.specs.Bytes.{padded}
 use Rattle.refusal.specs.declared.Unread.{Unread}
