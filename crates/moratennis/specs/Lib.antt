@@ -1,2 +1,3 @@
+pub mod Advice
 pub mod Status
 pub mod Writing

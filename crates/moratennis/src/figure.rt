@@ -1,4 +1,6 @@
 // A worth as a plain figure of rewards.
+ghost use Rattle.std.specs.Prelude.{◌≡◌, ◌*◌, ◌/◌, ◌%◌, ◌^◌, ◌≤◌, unsigned_abs};
+
 use std::fmt;
 
 // A number to three decimals, rounded toward zero.
@@ -11,7 +13,12 @@ pub struct Figure {
 
 impl Figure {
     // A value that is counted in so many parts of one.
-    pub fn new(value: i64, parts: u64) -> Figure {
+    pub fn new(value: i64, parts: u64) -> Figure
+        requires some { 1 ≤ parts }
+        requires few { parts ≤ 2 ^ 44 }
+        ensures whole { result.whole ≡ unsigned_abs value / parts }
+        ensures thousandths { result.thousandths ≡ unsigned_abs value % parts * 1000 / parts }
+    {
         let size = value.unsigned_abs();
         Figure {
             negative: value < 0,
