@@ -2,6 +2,7 @@
 use crate::plan::Plan;
 use formula::Node;
 use model::{Numbered, Outcome, SiteModel};
+use refusal::Refusal;
 use std::fmt;
 use truth::shows;
 use walk::{Sight, Walker};
@@ -157,24 +158,66 @@ impl fmt::Display for Row<'_> {
     }
 }
 
-// Where a walk stands, and what the plan advises there.
-pub fn stand(rt: &impl Print, plan: &Plan, walker: &Walker) -> anyhow::Result<()> {
-    let Sight {
-        site,
-        slot,
-        reward,
-        total,
-    } = walker.sight(&plan.planned.book);
-    println!(rt; "  Slot {slot}: site state {site}, reward {reward}, total {total}.")?;
-    if walker.is_choosing() {
-        println!(rt; "  The outcome of the choice is to be told.")?;
-        return Ok(());
+// What a walk has.
+#[derive(Clone, Copy)]
+pub struct Seen(pub Sight);
+
+impl fmt::Display for Seen {
+    fn fmt<W: fmt::Write>(&self, f: &mut fmt::Formatter<W>) -> fmt::Result {
+        let Sight {
+            site,
+            slot,
+            reward,
+            total,
+        } = self.0;
+        write!(
+            f,
+            "Slot {slot}, site state {site}, reward {reward}, total {total}."
+        )
     }
-    match plan.advice(slot, walker.state()) {
-        Some(action) => println!(rt; "  The plan advises action {action}.")?,
-        None => println!(rt; "  The plan ends here.")?,
+}
+
+// What a plan advises where a walk stands.
+#[derive(Clone, Copy)]
+pub struct Advice<'a> {
+    pub plan: &'a Plan,
+    pub walker: &'a Walker,
+}
+
+impl fmt::Display for Advice<'_> {
+    fn fmt<W: fmt::Write>(&self, f: &mut fmt::Formatter<W>) -> fmt::Result {
+        let Advice { plan, walker } = self;
+        if walker.is_choosing() {
+            return f.write_str("Its outcome is to be told.");
+        }
+        let slot = walker.sight(&plan.planned.book).slot;
+        match plan.advice(slot, walker.state()) {
+            Some(action) => write!(f, "The plan advises action {action}."),
+            None => f.write_str("The plan ends here."),
+        }
     }
-    Ok(())
+}
+
+// What a number did to a walk.
+#[derive(Clone, Copy)]
+pub struct Did {
+    pub number: u32,
+    pub told: bool,
+    pub refusal: Option<Refusal>,
+}
+
+impl fmt::Display for Did {
+    fn fmt<W: fmt::Write>(&self, f: &mut fmt::Formatter<W>) -> fmt::Result {
+        let number = self.number;
+        match self.refusal {
+            Some(refusal) => {
+                let why = refusal.number();
+                write!(f, "{number} is refused: {why}: {refusal}.")
+            }
+            None if self.told => write!(f, "Outcome {number} is told."),
+            None => write!(f, "Action {number} is chosen."),
+        }
+    }
 }
 
 // Outcomes, as `4/8 to state 0, 4/8 to state 1`.

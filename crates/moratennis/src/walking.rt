@@ -1,7 +1,9 @@
 // Walks on the written-out book of a pile, by numbers from the standard input.
+use crate::build;
 use crate::options::{Command, Options, WeighBy};
 use crate::plan::{Plan, SLOTS, plan_by};
-use crate::{build, show};
+use crate::show::{Advice, Did, Seen};
+use std::fmt::Display;
 use std::io::{BufRead, BufReader};
 use walk::{Turned, Walker};
 
@@ -22,37 +24,45 @@ pub fn run(rt: &HostRuntime, words: &[String]) -> anyhow::Result<()> {
 fn walk(rt: &HostRuntime, plan: &Plan) -> anyhow::Result<()> {
     let heap = rt.alloc();
     let mut walker = Walker::open(&plan.planned.book);
-    println!(rt; "The walk is opened.")?;
-    show::stand(rt, plan, &walker)?;
+    stands(rt, plan, &walker, "The walk is opened.")?;
     for line in BufReader::new(heap, rt.stdin())?.lines(heap) {
         walker = answer(rt, plan, walker, line?.as_str())?;
     }
     close(rt, plan, walker)
 }
 
-// What a line does to the walk: a line that is no number does nothing.
+// What a line does to the walk: one that is no number does nothing.
 fn answer(rt: &HostRuntime, plan: &Plan, walker: Walker, line: &str) -> anyhow::Result<Walker> {
     let Ok(number) = line.trim().parse::<u32>() else {
         println!(rt; "{line:?} is no number, and is skipped.")?;
         return Ok(walker);
     };
-    turn(rt, plan, walker, number)
-}
-
-// What a number does to the walk.
-pub fn turn(rt: &HostRuntime, plan: &Plan, walker: Walker, number: u32) -> anyhow::Result<Walker> {
     let told = walker.is_choosing();
     let Turned { refusal, walker } = walker.turn(&plan.planned.book, number);
-    match refusal {
-        Some(refusal) => {
-            let why = refusal.number();
-            println!(rt; "{number} is refused: {why}: {refusal}.")?;
-        }
-        None if told => println!(rt; "Outcome {number} is told.")?,
-        None => println!(rt; "Action {number} is chosen.")?,
-    }
-    show::stand(rt, plan, &walker)?;
+    stands(
+        rt,
+        plan,
+        &walker,
+        Did {
+            number,
+            told,
+            refusal,
+        },
+    )?;
     Ok(walker)
+}
+
+// What happened, what the walk has after it, and what the plan advises then.
+fn stands(
+    rt: &HostRuntime,
+    plan: &Plan,
+    walker: &Walker,
+    happened: impl Display + Drop,
+) -> anyhow::Result<()> {
+    let seen = Seen(walker.sight(&plan.planned.book));
+    let advice = Advice { plan, walker };
+    println!(rt; "{happened} {seen} {advice}")?;
+    Ok(())
 }
 
 // Ends the walk where it can end.
@@ -61,7 +71,7 @@ fn close(rt: &HostRuntime, plan: &Plan, walker: Walker) -> anyhow::Result<()> {
         Ok(sight) => {
             let slot = sight.slot;
             let total = sight.total;
-            println!(rt; "The walk is closed in slot {slot} with a total of {total}.")?;
+            println!(rt; "The walk is closed in slot {slot}, with a total of {total}.")?;
         }
         Err(_) => println!(rt;
             "The walk is not closed: an outcome of the open choice was not told."

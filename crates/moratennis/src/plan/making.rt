@@ -1,4 +1,7 @@
 // Planning in tables that hold the largest plan.
+ghost use Rattle.moratennis.specs.Planning.{OutOfMemory, PlansOr, weigh_of};
+ghost use Rattle.std.specs.Prelude.{◌≡◌, IfErr, IfOk, length};
+
 use crate::options::WeighBy;
 use crate::plan::{Plan, SLOTS};
 use pile::Pile;
@@ -21,7 +24,12 @@ pub struct Room {
 }
 
 impl Room {
-    pub fn new(heap: Global) -> Result<Room, AllocError> {
+    pub fn new(heap: Global) -> Result<Room, AllocError>
+        ensures codes { IfOk result (λ r. length r.codes.items ≡ 4096) }
+        ensures bytes { IfOk result (λ r. length r.bytes.items ≡ 1212424) }
+        ensures worths { IfOk result (λ r. length r.worths.items ≡ 53248) }
+        ensures choices { IfOk result (λ r. length r.choices.items ≡ 49152) }
+    {
         Ok(Room {
             codes: vec![in heap; 0u64; STATES]?,
             bytes: vec![in heap; 0u8; 4 * WORDS]?,
@@ -38,7 +46,9 @@ impl Plan {
         pile: &P,
         weighing: &W,
         horizon: usize,
-    ) -> Result<Plan, Unplanned> {
+    ) -> Result<Plan, Unplanned>
+        ensures { PlansOr (W.meaning weighing.now) (P.Pile.base pile.now) (P.Pile.floors pile.now) (P.SiteModel.meaning pile.now) horizon result }
+    {
         let mut room = Room::new(heap).map_err(Unplanned::Memory)?;
         let mut tables = Tables {
             codes: room.codes.as_mut_slice(),
@@ -47,13 +57,23 @@ impl Plan {
             choices: room.choices.as_mut_slice(),
         };
         let planned = plan_pile(heap, pile, weighing, horizon, &mut tables)?;
+        // A copy, since the lent tables come back only through `tables`.
+        let choices = copied(heap, &*tables.choices)?;
         Ok(Plan {
             planned,
             horizon,
             unit: weighing.unit(),
-            choices: room.choices,
+            choices,
         })
     }
+}
+
+// A table of its own.
+fn copied(heap: Global, table: &[u8]) -> Result<Vec<u8>, Unplanned>
+    ensures items { IfOk result (λ v. v.items ≡ table.now) }
+    ensures memory { IfErr result OutOfMemory }
+{
+    Vec::from_slice(heap, table).map_err(Unplanned::Memory)
 }
 
 // Plans under the weighing that is asked for.
@@ -62,7 +82,9 @@ pub fn plan_by<P: Pile>(
     pile: &P,
     weighing: WeighBy,
     horizon: usize,
-) -> Result<Plan, Unplanned> {
+) -> Result<Plan, Unplanned>
+    ensures { PlansOr (weigh_of weighing) (P.Pile.base pile.now) (P.Pile.floors pile.now) (P.SiteModel.meaning pile.now) horizon result }
+{
     match weighing {
         WeighBy::Mean => Plan::make(heap, pile, &Mean, horizon),
         WeighBy::Worst => Plan::make(heap, pile, &Worst, horizon),

@@ -1,4 +1,4 @@
-use Rattle.std.proofs.Common.{◌≡◌, ℕ, ◌+◌, ◌-◌, ◌*◌, ◌<◌, length, sym, ◌∙◌, arith, rules}
+use Rattle.std.proofs.Common.{◌+◌, ◌-◌, ◌*◌, ◌<◌, length, rules}
 use Rattle.std.specs.Vec.{vec_items}
 use Rattle.moratennis.proofs.Advising.{advised_at, item_copied}
 use Rattle.moratennis.proofs.plan.Plan.advice.Goals as goal

@@ -1,4 +1,4 @@
-use Rattle.std.proofs.Common.{ℕ, ◌*◌, ◌^◌, ◌<◌, ◌≤◌, sym, subst, arith}
+use Rattle.std.proofs.Common.{◌^◌, ◌≤◌, sym, subst, arith}
 use Rattle.std.proofs.Math.Nat.{one-le-pow}
 use Rattle.moratennis.proofs.Powers.{unit_power}
 use Rattle.moratennis.proofs.plan.Plan.parts.Goals as goal
