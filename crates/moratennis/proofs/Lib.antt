@@ -1,1 +1,4 @@
+mod Advising
 mod Holding
+mod Planning
+mod Powers

@@ -1,2 +1,4 @@
+pub mod Advice
+pub mod Planning
 pub mod Status
 pub mod Writing

@@ -3,6 +3,7 @@ use crate::options::{GroundFile, Options};
 use anyhow::{Context, Error, anyhow};
 use ground::GroundBook;
 use pile::{Three, stack};
+use promise::Unplanned;
 use refusal::Refusal;
 use rulebook::read_rule;
 use sitebook::read_site;
@@ -55,6 +56,14 @@ fn refusals(pile: &Three<GroundBook>) -> [Option<Refusal>; 3] {
         pile.below().refusal(),
         pile.refusal(),
     ]
+}
+
+// Why no plan was made.
+pub fn unplanned(why: Unplanned) -> Error {
+    match why {
+        Unplanned::Refused(refusal) => refused(refusal),
+        Unplanned::Memory(error) => error.into(),
+    }
 }
 
 // A refusal that is about no word.

@@ -7,10 +7,14 @@ ghost use Rattle.std.specs.Process.{exit_status};
 
 mod book;
 mod build;
+mod builtin;
 mod check;
-mod crossing;
+mod figure;
 mod options;
+mod plan;
 mod show;
+mod slots;
+mod walking;
 mod writing;
 
 use std::env;
@@ -21,7 +25,7 @@ fn main(rt: HostRuntime) -> anyhow::Result<ExitCode> {
     let words: Vec<String> = env::args(&rt)?.skip(1).collect(rt.alloc())?;
     match words.as_slice() {
         [] => {
-            crossing::run(&rt)?;
+            builtin::run(&rt)?;
             Ok(ExitCode::SUCCESS)
         }
         [command, kind, file] if command.as_str() == "check" => check::run(
@@ -31,6 +35,14 @@ fn main(rt: HostRuntime) -> anyhow::Result<ExitCode> {
         ),
         [command, options @ ..] if command.as_str() == "write" => {
             writing::run(&rt, options)?;
+            Ok(ExitCode::SUCCESS)
+        }
+        [command, options @ ..] if command.as_str() == "plan" => {
+            slots::run(&rt, options)?;
+            Ok(ExitCode::SUCCESS)
+        }
+        [command, options @ ..] if command.as_str() == "walk" => {
+            walking::run(&rt, options)?;
             Ok(ExitCode::SUCCESS)
         }
         _ => usage(&rt),
@@ -48,6 +60,12 @@ fn usage(rt: &HostRuntime) -> anyhow::Result<ExitCode>
     )?;
     rt.eprintln(
         "       moratennis write GROUND.. --to FILE    writes the site book of all that is reachable",
+    )?;
+    rt.eprintln(
+        "       moratennis plan GROUND.. --horizon N --weighing mean|worst   the best choices for N slots",
+    )?;
+    rt.eprintln(
+        "       moratennis walk GROUND.. [--horizon N] [--weighing mean|worst]   walks by numbers that it reads: a choice, then its outcome",
     )?;
     rt.eprintln(
         "GROUND..: --site FILE or --rule FILE, and up to three wish books laid on it, --wish FILE",

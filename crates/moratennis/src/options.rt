@@ -1,9 +1,40 @@
 // The options of the commands that build a pile.
-use anyhow::{Context, anyhow, bail};
+use anyhow::{Context, bail};
 use std::alloc::Global;
+use std::fmt;
 
 // How many wish books are laid at most.
 const FLOORS: usize = 3;
+
+// The commands that build a pile.
+#[derive(Clone, Copy, Debug, PartialEq, Eq)]
+pub enum Command {
+    Write,
+    Plan,
+    Walk,
+}
+
+impl Command {
+    // Books are for all; one command writes a file, and the others plan.
+    fn takes(self, option: &str) -> bool {
+        match option {
+            "--site" | "--rule" | "--wish" => true,
+            "--to" => self == Command::Write,
+            "--horizon" | "--weighing" => self != Command::Write,
+            _ => false,
+        }
+    }
+}
+
+impl fmt::Display for Command {
+    fn fmt<W: fmt::Write>(&self, f: &mut fmt::Formatter<W>) -> fmt::Result {
+        f.write_str(match self {
+            Command::Write => "write",
+            Command::Plan => "plan",
+            Command::Walk => "walk",
+        })
+    }
+}
 
 // The file of a ground book.
 #[derive(Clone, Copy, Debug, PartialEq, Eq)]
@@ -12,38 +43,58 @@ pub enum GroundFile<'a> {
     Rule(&'a str),
 }
 
-// The files that options name; each command asks for those that it needs.
+// How a plan weighs the outcomes of a choice: by their chances, or by the worst of them.
+#[derive(Clone, Copy, Debug, PartialEq, Eq)]
+pub enum WeighBy {
+    Mean,
+    Worst,
+}
+
+// The files and the numbers that options name; each command asks for those that it needs.
 #[derive(Debug, Drop)]
 pub struct Options<'a> {
     ground: Option<GroundFile<'a>>,
     wishes: Vec<&'a str>,
     to: Option<&'a str>,
+    horizon: Option<usize>,
+    weighing: Option<WeighBy>,
 }
 
 impl<'a> Options<'a> {
     // Each option is a name and what comes after it, in any order.
-    pub fn parse(heap: Global, words: &'a [String]) -> anyhow::Result<Options<'a>> {
+    pub fn parse(
+        heap: Global,
+        command: Command,
+        words: &'a [String],
+    ) -> anyhow::Result<Options<'a>> {
         let mut options = Options {
             ground: None,
             wishes: Vec::new(heap),
             to: None,
+            horizon: None,
+            weighing: None,
         };
         for pair in words.chunks(2) {
-            let [name, value] = pair else {
-                bail!("nothing comes after the last option");
+            let name = pair[0].as_str();
+            if !command.takes(name) {
+                bail!("{command} does not take {name}");
+            }
+            let [_, value] = pair else {
+                bail!("nothing comes after {name}");
             };
-            options.take(name.as_str(), value.as_str())?;
+            options.take(name, value.as_str())?;
         }
         Ok(options)
     }
 
     fn take(&mut self, name: &str, value: &'a str) -> anyhow::Result<()> {
         match name {
-            "--site" => once(&mut self.ground, GroundFile::Site(value)),
-            "--rule" => once(&mut self.ground, GroundFile::Rule(value)),
-            "--to" => once(&mut self.to, value),
-            "--wish" => self.wish(value),
-            _ => Err(anyhow!("there is no option {name}")),
+            "--site" => once(&mut self.ground, GroundFile::Site(value), "ground book"),
+            "--rule" => once(&mut self.ground, GroundFile::Rule(value), "ground book"),
+            "--to" => once(&mut self.to, value, "file to write to"),
+            "--horizon" => once(&mut self.horizon, slots(value)?, "horizon"),
+            "--weighing" => once(&mut self.weighing, weigh_by(value)?, "weighing"),
+            _ => self.wish(value),
         }
     }
 
@@ -68,13 +119,43 @@ impl<'a> Options<'a> {
     pub fn to(&self) -> anyhow::Result<&'a str> {
         self.to.context("a file to write to is wanted: --to FILE")
     }
+
+    pub fn horizon(&self) -> anyhow::Result<usize> {
+        self.horizon
+            .context("a number of slots is wanted: --horizon N")
+    }
+
+    pub fn weighing(&self) -> anyhow::Result<WeighBy> {
+        self.weighing.context("a weighing is wanted: --weighing mean or --weighing worst")
+    }
+
+    // For a command that plans as far as a walk can go, by chances, where it is not told.
+    pub fn horizon_or(&self, horizon: usize) -> usize {
+        self.horizon.unwrap_or(horizon)
+    }
+
+    pub fn weighing_or(&self, weighing: WeighBy) -> WeighBy {
+        self.weighing.unwrap_or(weighing)
+    }
 }
 
 // Two values would leave open which is meant.
-fn once<T: Drop>(place: &mut Option<T>, value: T) -> anyhow::Result<()> {
+fn once<T: Drop>(place: &mut Option<T>, value: T, what: &str) -> anyhow::Result<()> {
     if place.is_some() {
-        bail!("only one ground book and one file to write to can be given");
+        bail!("only one {what} can be given");
     }
     *place = Some(value);
     Ok(())
+}
+
+fn slots(value: &str) -> anyhow::Result<usize> {
+    value.parse().context(format_args!("a horizon is a number of slots, and {value} is none"))
+}
+
+fn weigh_by(value: &str) -> anyhow::Result<WeighBy> {
+    match value {
+        "mean" => Ok(WeighBy::Mean),
+        "worst" => Ok(WeighBy::Worst),
+        _ => bail!("a weighing is mean or worst, and {value} is neither"),
+    }
 }

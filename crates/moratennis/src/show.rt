@@ -1,8 +1,11 @@
 // Books and formulas as people read them.
+use crate::plan::Plan;
 use formula::Node;
-use model::{Numbered, Outcome};
+use model::{Numbered, Outcome, SiteModel};
+use refusal::Refusal;
 use std::fmt;
 use truth::shows;
+use walk::{Sight, Walker};
 use wishbook::WishBook;
 
 // The labels of a mask, as `p0 p3`, or `-` where there are none. Joined by hand, as `Leads` is: the library joins on a heap.
@@ -95,6 +98,126 @@ pub fn states<M: Numbered>(rt: &impl Print, model: &M) -> anyhow::Result<()> {
         }
     }
     Ok(())
+}
+
+// How large a plan is, what its start is worth, and what to do slot by slot: a line for each listed state, a column for each slot.
+pub fn plan(rt: &impl Print, plan: &Plan) -> anyhow::Result<()> {
+    let Plan {
+        planned,
+        horizon,
+        unit,
+        ..
+    } = plan;
+    let states = planned.written.states;
+    let worth = planned.worth;
+    let figure = plan.figure();
+    let kind = if *unit == 1 { "least" } else { "expected" };
+    println!(rt; "a plan of {horizon} slots on a book of {states} states")?;
+    println!(rt; "the start is worth {worth}: the {kind} sum of discounted rewards is {figure}")?;
+    println!(rt; "what to do in each state, slot by slot:")?;
+    println!(rt; "{}", Head(*horizon))?;
+    for state in 0..planned.book.count() as u64 {
+        println!(rt; "{}", Row { plan, state })?;
+    }
+    Ok(())
+}
+
+// The head of the choices.
+#[derive(Clone, Copy)]
+struct Head(usize);
+
+impl fmt::Display for Head {
+    fn fmt<W: fmt::Write>(&self, f: &mut fmt::Formatter<W>) -> fmt::Result {
+        f.write_str("state  site state")?;
+        for slot in 0..self.0 {
+            write!(f, "  slot {slot:<2}")?;
+        }
+        f.write_str("  labels")
+    }
+}
+
+// What to do in a listed state.
+#[derive(Clone, Copy)]
+struct Row<'a> {
+    plan: &'a Plan,
+    state: u64,
+}
+
+impl fmt::Display for Row<'_> {
+    fn fmt<W: fmt::Write>(&self, f: &mut fmt::Formatter<W>) -> fmt::Result {
+        let Row { plan, state } = self;
+        let book = &plan.planned.book;
+        let site = book.ground(*state);
+        let labels = Labels(book.mask(*state));
+        write!(f, "{state:>5}  {site:>10}")?;
+        for slot in 0..plan.horizon {
+            let action = plan.advice(slot, *state).unwrap_or(0);
+            write!(f, "  {action:<7}")?;
+        }
+        write!(f, "  {labels}")
+    }
+}
+
+// What a walk has.
+#[derive(Clone, Copy)]
+pub struct Seen(pub Sight);
+
+impl fmt::Display for Seen {
+    fn fmt<W: fmt::Write>(&self, f: &mut fmt::Formatter<W>) -> fmt::Result {
+        let Sight {
+            site,
+            slot,
+            reward,
+            total,
+        } = self.0;
+        write!(
+            f,
+            "Slot {slot}, site state {site}, reward {reward}, total {total}."
+        )
+    }
+}
+
+// What a plan advises where a walk stands.
+#[derive(Clone, Copy)]
+pub struct Advice<'a> {
+    pub plan: &'a Plan,
+    pub walker: &'a Walker,
+}
+
+impl fmt::Display for Advice<'_> {
+    fn fmt<W: fmt::Write>(&self, f: &mut fmt::Formatter<W>) -> fmt::Result {
+        let Advice { plan, walker } = self;
+        if walker.is_choosing() {
+            return f.write_str("Its outcome is to be told.");
+        }
+        let slot = walker.sight(&plan.planned.book).slot;
+        match plan.advice(slot, walker.state()) {
+            Some(action) => write!(f, "The plan advises action {action}."),
+            None => f.write_str("The plan ends here."),
+        }
+    }
+}
+
+// What a number did to a walk.
+#[derive(Clone, Copy)]
+pub struct Did {
+    pub number: u32,
+    pub told: bool,
+    pub refusal: Option<Refusal>,
+}
+
+impl fmt::Display for Did {
+    fn fmt<W: fmt::Write>(&self, f: &mut fmt::Formatter<W>) -> fmt::Result {
+        let number = self.number;
+        match self.refusal {
+            Some(refusal) => {
+                let why = refusal.number();
+                write!(f, "{number} is refused: {why}: {refusal}.")
+            }
+            None if self.told => write!(f, "Outcome {number} is told."),
+            None => write!(f, "Action {number} is chosen."),
+        }
+    }
 }
 
 // Outcomes, as `4/8 to state 0, 4/8 to state 1`.

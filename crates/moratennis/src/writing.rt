@@ -4,12 +4,12 @@ ghost use Rattle.writeout.specs.Tables.{Writable};
 
 use crate::book::written_out;
 use crate::build::{pile, refused};
-use crate::options::Options;
+use crate::options::{Command, Options};
 use pile::Pile;
 use std::fs;
 
 pub fn run(rt: &HostRuntime, words: &[String]) -> anyhow::Result<()> {
-    let options = Options::parse(rt.alloc(), words)?;
+    let options = Options::parse(rt.alloc(), Command::Write, words)?;
     let to = options.to()?;
     save(rt, &pile(rt, &options)?, to)
 }

@@ -23,6 +23,11 @@ abbrev pub is_choosing : Walk → Bool
 is_choosing (standing s) = false
 is_choosing (choosing s a) = true
 
+-- the state of the model that a walk stands at
+abbrev pub stands_at : Walk → ℕ
+stands_at (standing s) = s.state
+stands_at (choosing s a) = s.state
+
 -- the answer to a number, and what is after it
 pub record Turn (W : Type 0) : Type 0 where
   pub refused : Option Refusal

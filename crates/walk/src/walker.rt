@@ -2,7 +2,7 @@
 ghost use Rattle.std.specs.Prelude.{◌≡◌, true, false};
 ghost use Rattle.walk.specs.Reckoner.{AgreesOverAll};
 ghost use Rattle.walk.specs.Views.{walk_of, turn_of, choice_of, telling_of, ending_of};
-ghost use Rattle.walk.specs.Walker.{begun, is_choosing, turn, ending, walk_has};
+ghost use Rattle.walk.specs.Walker.{begun, is_choosing, stands_at, turn, ending, walk_has};
 ghost use Rattle.weighing.specs.Discounts.{discount_of};
 
 use crate::{Chosen, Refused, Sight, Standing};
@@ -86,6 +86,16 @@ impl Walker {
             self.tell(model, number)
         } else {
             self.choose(model, number)
+        }
+    }
+
+    // The state of the model that the walk stands at.
+    pub fn state(&self) -> u64
+        ensures { result ≡ stands_at (walk_of self.now) }
+    {
+        match self {
+            Walker::Standing(standing) => standing.state(),
+            Walker::Chosen(chosen) => chosen.state(),
         }
     }
 

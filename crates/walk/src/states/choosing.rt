@@ -47,6 +47,13 @@ impl Standing {
         })
     }
 
+    // The state of the model that the walk stands at.
+    pub fn state(&self) -> u64
+        ensures { result ≡ (stand_of self.now).state }
+    {
+        self.state
+    }
+
     // What the walk has.
     pub fn sight<M: SiteModel>(&self, model: &M) -> Sight
         ensures { result ≡ sight_of (M.SiteModel.meaning model.now) (stand_of self.now) }

@@ -26,6 +26,13 @@ impl Chosen {
         })
     }
 
+    // The state of the model that the walk stands at, as before the choice.
+    pub fn state(&self) -> u64
+        ensures { result ≡ (from_of self.now).state }
+    {
+        self.state
+    }
+
     // What the walk has, as before the choice.
     pub fn sight<M: SiteModel>(&self, model: &M) -> Sight
         ensures { result ≡ sight_of (M.SiteModel.meaning model.now) (from_of self.now) }

@@ -1,0 +1,14 @@
+// Prints the plan of a pile.
+use crate::options::{Command, Options};
+use crate::plan::plan_by;
+use crate::{build, show};
+
+pub fn run(rt: &HostRuntime, words: &[String]) -> anyhow::Result<()> {
+    let heap = rt.alloc();
+    let options = Options::parse(heap, Command::Plan, words)?;
+    let horizon = options.horizon()?;
+    let weighing = options.weighing()?;
+    let pile = build::pile(rt, &options)?;
+    let plan = plan_by(heap, &pile, weighing, horizon).map_err(build::unplanned)?;
+    show::plan(rt, &plan)
+}
