@@ -8,10 +8,10 @@ use refusal::Refusal;
 use std::alloc::{AllocError, Global};
 
 // How many states a book holds at most.
-const STATES: usize = 4096;
+pub const STATES: usize = 4096;
 
 // How many words it then has at most: the head, two for each state, nine for each action in a state, and the end.
-const WORDS: usize = 1 + 2 * STATES + 8 * 9 * STATES + 1;
+pub const WORDS: usize = 1 + 2 * STATES + 8 * 9 * STATES + 1;
 
 // The codes of the reachable states, and the bytes of their site book.
 #[derive(Drop)]

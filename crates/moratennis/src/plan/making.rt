@@ -2,18 +2,13 @@
 ghost use Rattle.moratennis.specs.Planning.{OutOfMemory, PlansOr, weigh_of};
 ghost use Rattle.std.specs.Prelude.{◌≡◌, IfErr, IfOk, length};
 
+use crate::book::{STATES, WORDS};
 use crate::options::WeighBy;
 use crate::plan::{Plan, SLOTS};
 use pile::Pile;
 use promise::{Tables, Unplanned, plan_pile};
 use std::alloc::{AllocError, Global};
 use weighing::{Mean, Weighing, Worst};
-
-// How many states a book holds at most, and how many words it then has: the head, two for each state, nine for each action in a state,
-// and the end.
-pub const STATES: usize = 4096;
-
-pub const WORDS: usize = 1 + 2 * STATES + 8 * 9 * STATES + 1;
 
 #[derive(Drop)]
 pub struct Room {
