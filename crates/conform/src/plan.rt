@@ -6,14 +6,9 @@ use crate::numbers::{number, places};
 use crate::out::BEFORE;
 use pile::Pile;
 use promise::{Planned, Tables, plan_pile};
+use slotplan::{STATES, WORDS};
 use std::alloc::Global;
 use weighing::{Mean, Weighing, Worst};
-
-// How many states a book holds at most.
-pub const STATES: usize = 4096;
-
-// How many words it then has at most: the head, two for each state, nine for each action in a state, and the end.
-const WORDS: usize = 1 + 2 * STATES + 8 * 9 * STATES + 1;
 
 // `KIND HEX HORIZON mean|worst WORTHS CHOICES HEX ..`: a ground model, how many slots are left, how an action's outcomes are joined, how
 // long the two tables are, and wish books to be laid on it.

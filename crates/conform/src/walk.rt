@@ -2,11 +2,12 @@
 use crate::built::build;
 use crate::failure::Failure;
 use crate::numbers::number;
-use crate::plan::{STATES, planned};
+use crate::plan::planned;
 use model::SiteModel;
 use outbook::OriginBook;
 use pile::Pile;
 use refusal::Refusal;
+use slotplan::STATES;
 use std::alloc::Global;
 use std::fmt;
 use std::str::FromStr;

@@ -1,4 +1,1 @@
-pub mod Advice
-pub mod Planning
 pub mod Status
-pub mod Writing

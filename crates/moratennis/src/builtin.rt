@@ -1,6 +1,5 @@
 // The built-in crossing: a three-state site, and the wish "swept and previous train" worth 10.
 use crate::build::unplanned;
-use crate::plan::{Plan, Room};
 use crate::show;
 use crate::show::{Advice, Did, Seen};
 use anyhow::Context;
@@ -10,6 +9,7 @@ use model::{SiteModel, reachable_at};
 use pile::{Three, stack, start_of};
 use promise::{Planned, Tables, Walks, plan_and_walk};
 use sitebook::read_site;
+use slotplan::{Plan, Room};
 use truth::shows;
 use walk::{Sight, Step, Walker};
 use weighing::{Mean, Weighing};

@@ -5,13 +5,10 @@
 ghost use Rattle.std.specs.Prelude.{◌≡◌, IfOk};
 ghost use Rattle.std.specs.Process.{exit_status};
 
-mod book;
 mod build;
 mod builtin;
 mod check;
-mod figure;
 mod options;
-mod plan;
 mod show;
 mod slots;
 mod walking;

@@ -1,5 +1,6 @@
 // The options of the commands that build a pile.
 use anyhow::{Context, bail};
+use slotplan::WeighBy;
 use std::alloc::Global;
 use std::fmt;
 
@@ -41,13 +42,6 @@ impl fmt::Display for Command {
 pub enum GroundFile<'a> {
     Site(&'a str),
     Rule(&'a str),
-}
-
-// How a plan weighs the outcomes of a choice: by their chances, or by the worst of them.
-#[derive(Clone, Copy, Debug, PartialEq, Eq)]
-pub enum WeighBy {
-    Mean,
-    Worst,
 }
 
 // The files and the numbers that options name; each command asks for those that it needs.

@@ -1,8 +1,8 @@
 // Books and formulas as people read them.
-use crate::plan::Plan;
 use formula::Node;
 use model::{Numbered, Outcome, SiteModel};
 use refusal::Refusal;
+use slotplan::Plan;
 use std::fmt;
 use truth::shows;
 use walk::{Sight, Walker};

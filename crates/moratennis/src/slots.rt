@@ -1,7 +1,7 @@
 // Prints the plan of a pile.
 use crate::options::{Command, Options};
-use crate::plan::plan_by;
 use crate::{build, show};
+use slotplan::plan_by;
 
 pub fn run(rt: &HostRuntime, words: &[String]) -> anyhow::Result<()> {
     let heap = rt.alloc();

@@ -1,8 +1,8 @@
 // Walks on the written-out book of a pile, by numbers from the standard input.
 use crate::build;
-use crate::options::{Command, Options, WeighBy};
-use crate::plan::{Plan, SLOTS, plan_by};
+use crate::options::{Command, Options};
 use crate::show::{Advice, Did, Seen};
+use slotplan::{Plan, SLOTS, WeighBy, plan_by};
 use std::fmt::Display;
 use std::io::{BufRead, BufReader};
 use walk::{Turned, Walker};

@@ -2,10 +2,10 @@
 ghost use Rattle.std.specs.Prelude.{IfOk};
 ghost use Rattle.writeout.specs.Tables.{Writable};
 
-use crate::book::written_out;
 use crate::build::{pile, refused};
 use crate::options::{Command, Options};
 use pile::Pile;
+use slotplan::written_out;
 use std::fs;
 
 pub fn run(rt: &HostRuntime, words: &[String]) -> anyhow::Result<()> {
