@@ -53,6 +53,13 @@ pub record TablesLeft (w : Weigh) (m : Model) (horizon : ℕ) (result : Result P
   pub worths : Left result (worth_at w (book_model m) horizon) ((horizon + 1) * (book_model m).span) before.worths.now after.worths.now
   pub choices : Left result (choice_at w (book_model m) horizon) (horizon * (book_model m).span) before.choices.now after.choices.now
 
+-- the same four tables as before are lent
+pub record TablesStay (before after : Tables) : Type 0 where
+  pub codes : after.codes.ghost_name ≡ before.codes.ghost_name
+  pub bytes : after.bytes.ghost_name ≡ before.bytes.ghost_name
+  pub worths : after.worths.ghost_name ≡ before.worths.ghost_name
+  pub choices : after.choices.ghost_name ≡ before.choices.ghost_name
+
 -- for a pile m over the ground model g with the floors fs: the choices in the table as a policy over histories of the ground model. It
 -- goes to the listed state that the history leads to, and takes the choice there for the slots left
 abbrev pub plan_policy : Model → List Floor → Model → ℕ → Tables → Policy

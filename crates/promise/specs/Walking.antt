@@ -6,6 +6,7 @@ use Rattle.pile.specs.Piles.{Floor, shown_on}
 use Rattle.promise.specs.Corresponding.{book_model}
 use Rattle.promise.specs.declared.plans.Planned.{Planned}
 use Rattle.promise.specs.declared.plans.Unplanned.{Unplanned}
+use Rattle.promise.specs.declared.walks.Walks.{Walks}
 use Rattle.walk.specs.declared.Step.{Step}
 use Rattle.walk.specs.Reckoner.{Agree, begins, reckon_run}
 use Rattle.weighing.specs.Discounts.{discount_of}
@@ -26,3 +27,8 @@ AgreeInBook g fs m = Writable m → Agree discount_of g (book_model m) (shown_on
 abbrev pub StepsLeft : Model → List Floor → List ℕ → Result Planned Unplanned → List Step → List Step → Type 0
 StepsLeft g fs numbers (Ok p) before after = after ≡ reckoned g fs (take (length before) numbers) ++ drop (length numbers) before
 StepsLeft g fs numbers (Err e) before after = after ≡ before
+
+-- the same two tables as before are lent
+pub record WalksStay (before after : Walks) : Type 0 where
+  pub on_pile : after.on_pile.ghost_name ≡ before.on_pile.ghost_name
+  pub in_book : after.in_book.ghost_name ≡ before.in_book.ghost_name

@@ -3,7 +3,7 @@ ghost use Rattle.std.specs.Prelude.{◌≡◌, ◌*◌, length};
 ghost use Rattle.promise.specs.Causes.{unread_as};
 ghost use Rattle.promise.specs.declared.plans.Unplanned.TheVariants as unplanned;
 ghost use Rattle.promise.specs.Corresponding.{Corresponds};
-ghost use Rattle.promise.specs.Planning.{BestInBook, NobodyEarnsMore, PlanEarns, PlansAs, ReadsBack, TablesLeft};
+ghost use Rattle.promise.specs.Planning.{BestInBook, NobodyEarnsMore, PlanEarns, PlansAs, ReadsBack, TablesLeft, TablesStay};
 ghost use Rattle.reach.specs.Search.{codes_of};
 ghost use Rattle.sitelayout.specs.Layout.{site_words};
 ghost use Rattle.words.specs.Format.{file};
@@ -100,6 +100,7 @@ pub fn plan_pile<P: Pile, W: Weighing>(
 ) -> Result<Planned, Unplanned>
     ensures answer { PlansAs (W.meaning weighing.now) (P.SiteModel.meaning pile.now) horizon tables.old result }
     ensures tables { TablesLeft (W.meaning weighing.now) (P.SiteModel.meaning pile.now) horizon result tables.old tables.new }
+    ensures lent { TablesStay tables.old tables.new }
     ensures faithful { Faithfully (P.SiteModel.meaning pile.now) }
     ensures corresponds { Corresponds (P.Pile.base pile.now) (P.Pile.floors pile.now) (P.SiteModel.meaning pile.now) }
     ensures best { BestInBook (P.Pile.base pile.now) (P.Pile.floors pile.now) (P.SiteModel.meaning pile.now) }

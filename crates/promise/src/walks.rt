@@ -1,7 +1,7 @@
 // The whole promise.
 ghost use Rattle.promise.specs.Corresponding.{Corresponds};
-ghost use Rattle.promise.specs.Planning.{BestInBook, NobodyEarnsMore, PlanEarns, PlansAs, TablesLeft};
-ghost use Rattle.promise.specs.Walking.{AgreeInBook, AgreeOnPile, StepsLeft};
+ghost use Rattle.promise.specs.Planning.{BestInBook, NobodyEarnsMore, PlanEarns, PlansAs, TablesLeft, TablesStay};
+ghost use Rattle.promise.specs.Walking.{AgreeInBook, AgreeOnPile, StepsLeft, WalksStay};
 ghost use Rattle.writeout.specs.Tables.{Faithfully};
 
 use crate::plans::{Planned, Tables, Unplanned, plan_pile};
@@ -34,6 +34,7 @@ pub fn plan_and_walk<P: Pile, W: Weighing>(
     ensures tables { TablesLeft (W.meaning weighing.now) (P.SiteModel.meaning pile.now) horizon result tables.old tables.new }
     ensures on_pile { StepsLeft (P.Pile.base pile.now) (P.Pile.floors pile.now) numbers.now result walks.old.on_pile.now walks.new.on_pile.now }
     ensures in_book { StepsLeft (P.Pile.base pile.now) (P.Pile.floors pile.now) numbers.now result walks.old.in_book.now walks.new.in_book.now }
+    ensures lent { TablesStay tables.old tables.new × WalksStay walks.old walks.new }
     ensures faithful { Faithfully (P.SiteModel.meaning pile.now) }
     ensures corresponds { Corresponds (P.Pile.base pile.now) (P.Pile.floors pile.now) (P.SiteModel.meaning pile.now) }
     ensures agrees_on_pile { AgreeOnPile (P.Pile.base pile.now) (P.Pile.floors pile.now) (P.SiteModel.meaning pile.now) }
