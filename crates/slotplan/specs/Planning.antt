@@ -1,7 +1,7 @@
 -- What planning on a pile m over the ground model g with the floors fs comes to, in tables that hold the largest plan: the plan's
--- choices, as a policy over histories of the ground model, earn its worth; or more states are reachable than a book holds, or the
--- horizon has more slots than a plan.
-use Rattle.std.specs.Prelude.{◌≡◌, ◌⊎◌, ℕ, ◌<◌, List, Ok, Err, Result, vec_items}
+-- choices, as a policy over histories of the ground model, earn its worth, and no policy that chooses from the whole history earns
+-- more; or more states are reachable than a book holds, or the horizon has more slots than a plan.
+use Rattle.std.specs.Prelude.{◌≡◌, ◌⊎◌, ℕ, ◌<◌, ◌≤ℤ◌, List, Ok, Err, Result, vec_items}
 use Rattle.model.specs.Models.{Model}
 use Rattle.slotplan.specs.declared.WeighBy.{WeighBy}
 use Rattle.slotplan.specs.declared.WeighBy.TheVariants.{Mean, Worst}
@@ -35,6 +35,7 @@ pub record Plans (w : Weigh) (g : Model) (fs : List Floor) (m : Model) (horizon 
   pub unit : p.unit ≡ w.unit
   pub admissible : Admissible g horizon (policy_of g fs m p)
   pub earns : earned_on w g fs horizon (policy_of g fs m p) ≡ p.planned.worth
+  pub nobody : (π : Policy) → Admissible g horizon π → earned_on w g fs horizon π ≤ℤ p.planned.worth
 
 abbrev pub OutOfMemory : Unplanned → Type 0
 OutOfMemory (Memory e) = Unit {0}

@@ -49,4 +49,5 @@ returns g c =
       unit = c.unit.ensures.unit;
       admissible = subst (λ cs. Admissible base c.args.horizon (policy cs)) (sym kept) plan.ensures.earns.0;
       earns = subst (λ cs. earned_on (g.W.Weighing.meaning c.args.weighing.now) base floors c.args.horizon (policy cs) ≡ plan.planned.worth) (sym kept) plan.ensures.earns.1;
+      nobody = plan.ensures.nobody;
     }
