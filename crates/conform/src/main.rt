@@ -10,7 +10,7 @@ mod lists;
 mod numbers;
 mod out;
 mod plan;
-mod walk;
+mod walking;
 
 ghost use Rattle.std.specs.Prelude.{◌<◌, IfOk};
 
@@ -45,7 +45,7 @@ fn answer(heap: Global, line: &str) -> Result<String, Failure> {
         ["lay", words @ ..] => lay::answer(heap, words),
         ["out", words @ ..] => out::answer(heap, words),
         ["plan", words @ ..] => plan::answer(heap, words),
-        ["walk", words @ ..] => walk::answer(heap, words),
+        ["walk", words @ ..] => walking::answer(heap, words),
         [kind, hex] => book(heap, kind.parse()?, hex),
         _ => Err(Failure::Unknown),
     }
