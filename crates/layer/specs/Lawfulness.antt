@@ -142,7 +142,6 @@ module _ (m : Model) (b : Book) (law : Lawful m) (few : length b.items ≤ 16) (
   layered_lawful = record {
     starts = ap (is_layer_state m b) (sym (add-zero (m.start * 65536))) ∙ packed_state m.start 0 law.starts (pow_pos (length b.items)) (omega arith);
     within = λ s e. omega (arith, law.within (under s) (state_parts s e).0);
-    wide = omega (arith, r.span);
     acts = law.acts;
     offers = λ s a e. let p = offered_parts s a e in (p.0, (law.offers (under s) a p.1).1);
     waits = λ s e. and_from (is_layer_state m b s) (m.offered (under s) 0) e (law.waits (under s) (state_parts s e).0);

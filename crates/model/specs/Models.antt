@@ -33,7 +33,6 @@ pub record Lawful (m : Model) : Type 0 where
   -- states
   pub starts : m.state m.start ≡ true
   pub within : (s : ℕ) → m.state s ≡ true → s < m.span
-  pub wide : m.span ≤ 2 ^ 60
   -- actions
   pub acts : (1 ≤ m.actions) × (m.actions ≤ 8)
   pub offers : (s a : ℕ) → m.offered s a ≡ true → (m.state s ≡ true) × (a < m.actions)

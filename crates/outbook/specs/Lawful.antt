@@ -28,7 +28,6 @@ origin_lawful b v =
     record {
       starts = law.starts;
       within = law.within;
-      wide = law.wide;
       acts = law.acts;
       offers = law.offers;
       waits = law.waits;

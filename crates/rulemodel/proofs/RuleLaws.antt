@@ -134,7 +134,6 @@ pub rule_lawful : (b : Rule) → valid b ≡ true → Lawful (rule_model b)
 rule_lawful b v = record {
   starts = start_state b v;
   within = λ s e. ltb-true s (2 ^ b.switches) e;
-  wide = omega (arith, states_few b v);
   acts = actions_few b v;
   offers =
       λ s a o.

@@ -128,7 +128,6 @@ module _ (b : Site) (v : valid b ≡ true) where
   site_lawful = record {
     starts = lt-ltb 0 (length b.marks) p.some;
     within = λ s e. ltb-true s (length b.marks) e;
-    wide = omega (arith, p.many);
     acts = (p.acts, p.few);
     offers = offers_law;
     waits = waits_law;
