@@ -29,7 +29,7 @@ short_answer w m h a b v is = search rules
 refused_answer : (w : Weigh) (m : Model) (h a b : ℕ) (r : Refusal) → m.span ≤ 4096 → 53248 ≤ a → 49152 ≤ b → answer_of w m h a b ≡ Err r → (r ≡ HorizonTooLong) × (12 < h)
 refused_answer w m h a b r few worths choices is =
     let done : Result ℤ Refusal = Ok (worth_of w discount_of m h h m.start) in
-    let held : Result ℤ Refusal = cond (tables_hold m h a b) done (Err PlanTableShort) in
+    let held : Result ℤ Refusal = cond (tables_hold m.span h a b) done (Err PlanTableShort) in
     ⊎_elim
     (λ (t : leb h 12 ≡ true).
     let short = leb-true h 12 t in
@@ -38,7 +38,7 @@ refused_answer w m h a b r few worths choices is =
     let two : h * m.span ≤ 49152 = mul-le-mul short few in
     let first = le-leb ((h + 1) * m.span) a (le_trans one worths) in
     let second = le-leb (h * m.span) b (le_trans two choices) in
-    let both : tables_hold m h a b ≡ true = ap (λ x. x && leb (h * m.span) b) first ∙ second in
+    let both : tables_hold m.span h a b ≡ true = ap (λ x. x && leb (h * m.span) b) first ∙ second in
     let never : Err r ≡ done = sym is ∙ cond-true _ held (Err HorizonTooLong) t ∙ cond-true _ done (Err PlanTableShort) both in
     let z : ◌≡◌ {A = ℕ} 0 1 = cc in
     absurd (omega arith))
