@@ -102,7 +102,16 @@ whole_rule (whole h acts) = require (waits acts) NoWait (Ok (rule_of h acts))
 abbrev pub rule_format : Format Draft Rule
 rule_format = record { start = blank; step = read_word; finish = whole_rule }
 
--- what holds of every draft that reading comes to
+-- what has been said so far
+
+-- the words that a draft was read from
+abbrev pub written : Draft → List ℕ
+written blank = []
+written (listing h acts) = word_of_head h.switches h.actions h.start ∷ act_words acts
+written (inside h acts m es) = word_of_head h.switches h.actions h.start ∷ (act_words acts ++ (action_word m.first m.second m.count ∷ effect_words es))
+written (whole h acts) = word_of_head h.switches h.actions h.start ∷ act_words acts
+
+-- what is known of a draft: the head, the actions and the outcomes that it has are good ones, and there is room for what is due
 
 abbrev pub Begun : RuleHead → List Act → Type 0
 Begun h acts = (good_head h.switches h.actions h.start ≡ true) × (all (good_act h.switches) acts ≡ true)
