@@ -1,15 +1,11 @@
 -- The refusals of the rule book's layout are right.
-use Rattle.std.proofs.Common.{◌≡◌, ℕ, zero, suc, ◌+◌, ◌-◌, ◌*◌, ◌/◌, ◌%◌, ◌^◌, ◌<◌, ◌≤◌, Bool, true, false, cond, not, ◌&&◌, eqb, ltb, leb, List, [], ◌∷◌, ◌++◌, length, Some, None, Option, Ok, Err, sym, refl, ap, ◌∙◌, subst, inl, inr, arith, rules}
-use Rattle.std.proofs.lemmas.Bool.{and_parts}
+use Rattle.std.proofs.Common.{◌≡◌, ℕ, ◌<◌, ◌≤◌, true, List, [], ◌∷◌, length, refl, subst, arith, rules}
 use Rattle.std.proofs.lemmas.List.{length_push}
 use Rattle.words.specs.Words.{kind}
-use Rattle.words.specs.Format.{more, ends}
+use Rattle.words.specs.Format.{ends}
 use Rattle.words.specs.Refusing.{word_tests, book_tests, first_failing, RefusesRightly}
-use Rattle.words.specs.Tests.{all}
 use Rattle.words.proofs.Encoding.{Passes, passes_append}
 use Rattle.words.proofs.Refusing.{refused, why_not, refuses_rightly}
-use Rattle.rulelayout.specs.declared.Effect.{Effect}
-use Rattle.rulelayout.specs.declared.Masks.{Masks}
 use Rattle.rulelayout.specs.declared.RuleHead.{RuleHead}
 use Rattle.rulelayout.specs.Rule.{Act}
 use Rattle.rulelayout.specs.Layout.{word_of_head, action_word, effect_words, act_words, Draft, blank, listing, inside, whole, listed, read_word, whole_rule, rule_format, written, Begun, Sound}

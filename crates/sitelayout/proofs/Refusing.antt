@@ -1,7 +1,7 @@
 -- The refusals of the site book's layout are right.
-use Rattle.std.proofs.Common.{◌≡◌, ℕ, zero, suc, ◌+◌, ◌-◌, ◌*◌, ◌/◌, ◌%◌, ◌^◌, ◌<◌, ◌≤◌, Bool, true, false, cond, not, ◌&&◌, eqb, ltb, leb, List, [], ◌∷◌, ◌++◌, length, get_or, replicate, append_assoc, append-nil, pow_mono, Some, None, Option, Ok, Err, sym, refl, ap, ◌∙◌, subst, inl, inr, arith, rules}
+use Rattle.std.proofs.Common.{◌≡◌, ℕ, zero, suc, ◌+◌, ◌-◌, ◌*◌, ◌^◌, ◌<◌, ◌≤◌, true, false, cond, not, List, [], ◌∷◌, ◌++◌, length, get_or, replicate, append_assoc, append-nil, pow_mono, Some, None, sym, refl, ap, ◌∙◌, subst, arith, rules}
 use Rattle.words.specs.Words.{kind}
-use Rattle.words.specs.Format.{Step, wrong, more, ends, onto, check, require}
+use Rattle.words.specs.Format.{more, ends}
 use Rattle.std.proofs.lemmas.Bool.{true≢false}
 use Rattle.refusal.specs.declared.Refusal.TheVariants.{NoWait}
 use Rattle.words.specs.Refusing.{word_tests, book_tests, first_failing, RefusesRightly}

@@ -1,14 +1,13 @@
 -- The refusals of the wish book's layout are right.
-use Rattle.std.proofs.Common.{◌≡◌, ℕ, zero, suc, ◌+◌, ◌-◌, ◌*◌, ◌/◌, ◌%◌, ◌^◌, ◌<◌, ◌≤◌, Bool, true, false, cond, not, ◌&&◌, eqb, ltb, leb, List, [], ◌∷◌, ◌++◌, length, Some, None, Option, Ok, Err, sym, refl, ap, ◌∙◌, subst, inl, inr, arith, rules}
+use Rattle.std.proofs.Common.{◌≡◌, ℕ, zero, suc, true, List, [], ◌∷◌, length, refl, arith, rules}
 use Rattle.std.proofs.lemmas.Bool.{and_parts}
 use Rattle.formula.specs.declared.Node.{Node}
 use Rattle.words.specs.Words.{kind}
-use Rattle.words.specs.Format.{more, ends}
+use Rattle.words.specs.Format.{ends}
 use Rattle.words.specs.Refusing.{word_tests, book_tests, first_failing, RefusesRightly}
 use Rattle.words.specs.Tests.{all}
 use Rattle.words.proofs.Encoding.{Passes, passes_append}
 use Rattle.words.proofs.Refusing.{refused, why_not, refuses_rightly}
-use Rattle.wishlayout.specs.declared.Wish.{Wish}
 use Rattle.wishlayout.specs.Wishes.{good_wish}
 use Rattle.wishlayout.specs.Layout.{node_words, amount_words, Draft, noding, wishing, read_word, whole_book, wish_format, written, Good}
 use Rattle.wishlayout.specs.WordTests.{may_end, passes, closes}
