@@ -116,19 +116,19 @@ written (whole h acts) = word_of_head h.switches h.actions h.start ∷ act_words
 abbrev pub Begun : RuleHead → List Act → Type 0
 Begun h acts = (good_head h.switches h.actions h.start ≡ true) × (all (good_act h.switches) acts ≡ true)
 
-abbrev pub Sound : Draft → Type 0
-Sound blank = Unit {0}
-Sound (listing h acts) = Begun h acts × (length acts < h.actions)
-Sound (inside h acts m es) =
+abbrev pub Good : Draft → Type 0
+Good blank = Unit {0}
+Good (listing h acts) = Begun h acts × (length acts < h.actions)
+Good (inside h acts m es) =
     Begun h acts × (length acts < h.actions)
     × (fits h.switches m.first m.second m.count ≡ true)
     × (all (good_effect h.switches) es ≡ true)
     × (length es < m.count)
-Sound (whole h acts) = Begun h acts × (length acts ≡ h.actions)
+Good (whole h acts) = Begun h acts × (length acts ≡ h.actions)
 
--- a draft is sound in one way only
-pub sound-prop : (d : Draft) → IsProp (Sound d)
-sound-prop blank = Unit-prop
-sound-prop (listing h acts) = Prim.hlevel props
-sound-prop (inside h acts m es) = Prim.hlevel props
-sound-prop (whole h acts) = Prim.hlevel props
+-- a draft is good in one way only
+pub good-prop : (d : Draft) → IsProp (Good d)
+good-prop blank = Unit-prop
+good-prop (listing h acts) = Prim.hlevel props
+good-prop (inside h acts m es) = Prim.hlevel props
+good-prop (whole h acts) = Prim.hlevel props
