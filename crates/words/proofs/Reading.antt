@@ -97,11 +97,11 @@ turn f s p left rest w st (four, word, tail) is =
     ∙ ap (λ l. after f s p w l (f.step s w)) (sym tail)
     ∙ ap (after f s p w rest) (sym is)
 
-pub nil_since : (rest : List ℕ) → length rest ≡ 0 → is_nil rest ≡ true
+nil_since : (rest : List ℕ) → length rest ≡ 0 → is_nil rest ≡ true
 nil_since [] h = refl
 nil_since (x ∷ rest) h = absurd (omega arith)
 
-pub some_since : (rest : List ℕ) → (length rest ≡ 0 → ⊥) → is_nil rest ≡ false
+some_since : (rest : List ℕ) → (length rest ≡ 0 → ⊥) → is_nil rest ≡ false
 some_since [] h = absurd (h refl)
 some_since (x ∷ rest) h = refl
 

@@ -2,7 +2,7 @@
 -- draft lead to it, and what its tests say of one word and of the whole.
 use Rattle.std.proofs.Common.{◌≡◌, ℕ, zero, suc, ◌+◌, ◌-◌, ◌*◌, ◌%◌, ◌^◌, ◌<◌, ◌≤◌, ◌⊎◌, Bool, true, false, not, ◌&&◌, eqb, ltb, List, [], ◌∷◌, ◌++◌, length, take, drop, Some, None, Option, Ok, Err, Result, sym, refl, ap, ◌∙◌, subst, inl, inr, append_assoc, append-nil, arith, rules}
 use Rattle.std.specs.Prelude.{find}
-use Rattle.std.proofs.lemmas.Bool.{cases_Bool, and_parts, and_from, eq-eqb, eqb-true, cond-true, cond-false, ltb-true, ltb-false, lt-ltb, le-ltb}
+use Rattle.std.proofs.lemmas.Bool.{cases_Bool, and_parts, and_from, eq-eqb, eqb-true, cond-true, cond-false, ltb-true, ltb-false, lt-ltb, le-ltb, true≢false}
 use Rattle.std.proofs.lemmas.List.{length-take, length-drop, drop-take}
 use Rattle.std.proofs.lemmas.Nat.{div-add-mod'}
 use Rattle.std.proofs.Math.Seq.{take-suc}
@@ -25,9 +25,6 @@ refused ends = None
 abbrev pub why_not : {B : Type 0} → Result B Refusal → Option Refusal
 why_not (Ok b) = None
 why_not (Err r) = Some r
-
-true_is_not_false : {A : Type 0} → true ≡ false → A
-true_is_not_false e = absurd (let z : ◌≡◌ {A = ℕ} 0 1 = cc in omega arith)
 
 -- what is found has what all have
 found : {X : Type 0} (P Q : X → Bool) (xs : List X) (x : X) → all Q xs ≡ true → find P xs ≡ Some x → Q x ≡ true
@@ -74,8 +71,8 @@ agree_then n m a b e = sym (drop-take n m a) ∙ ap (drop n) e ∙ drop-take n m
 
 nil_same : (a b : List ℕ) → ltb 0 (length a) ≡ ltb 0 (length b) → is_nil a ≡ is_nil b
 nil_same [] [] e = refl
-nil_same [] (y ∷ b) e = true_is_not_false (sym (lt-ltb 0 (length (y ∷ b)) (omega arith)) ∙ sym e)
-nil_same (x ∷ a) [] e = true_is_not_false (sym (lt-ltb 0 (length (x ∷ a)) (omega arith)) ∙ e)
+nil_same [] (y ∷ b) e = absurd (true≢false (sym (lt-ltb 0 (length (y ∷ b)) (omega arith)) ∙ sym e))
+nil_same (x ∷ a) [] e = absurd (true≢false (sym (lt-ltb 0 (length (x ∷ a)) (omega arith)) ∙ e))
 nil_same (x ∷ a) (y ∷ b) e = refl
 
 -- a refusal of the whole is none of a word
@@ -130,17 +127,17 @@ ended_by whole p w last r q e =
             sym is.0,
             elim (cases_Bool last) [
               | inr follows ↦ inr follows
-              | inl bare ↦ inl (λ own. true_is_not_false (sym (and_from (eqb (w % 2 ^ 28) p) last (eq-eqb (w % 2 ^ 28) p own) bare) ∙ n))
+              | inl bare ↦ inl (λ own. absurd (true≢false (sym (and_from (eqb (w % 2 ^ 28) p) last (eq-eqb (w % 2 ^ 28) p own) bare) ∙ n)))
             ],
           )
     ]
 
 nil_length : (l : List ℕ) → is_nil l ≡ true → length l ≡ 0
 nil_length [] e = refl
-nil_length (x ∷ l) e = true_is_not_false (sym e)
+nil_length (x ∷ l) e = absurd (true≢false (sym e))
 
 some_length : (l : List ℕ) → is_nil l ≡ false → 0 < length l
-some_length [] e = true_is_not_false e
+some_length [] e = absurd (true≢false e)
 some_length (x ∷ l) e = omega arith
 
 -- a word of the end's kind is the end word of p where its number is p
@@ -385,11 +382,11 @@ module _ {S B : Type 0} (f : Format S B) (Good : S → Type 0) (written : S → 
 
             -- a refusal that one word decides
             word_cause : (bytes : List ℕ) (r : Refusal) (p : ℕ) (s : S) → of_word r ≡ true → Cause bytes r p s → AtWord bytes r p s
-            word_cause bytes r p s own (no_word few cut) = true_is_not_false (sym own ∙ ap of_word cut)
+            word_cause bytes r p s own (no_word few cut) = absurd (true≢false (sym own ∙ ap of_word cut))
             word_cause bytes r p s own (a_word at) = at
             word_cause bytes r p s own (an_end at) = elim (at.by) [
-              | inl wrong_end ↦ true_is_not_false (sym own ∙ ap of_word wrong_end.0)
-              | inr right ↦ true_is_not_false (sym own ∙ no_word_of r right.3)
+              | inl wrong_end ↦ absurd (true≢false (sym own ∙ ap of_word wrong_end.0))
+              | inr right ↦ absurd (true≢false (sym own ∙ no_word_of r right.3))
             ]
 
             no_further : NoFurther f Good written may_end
@@ -412,24 +409,24 @@ module _ {S B : Type 0} (f : Format S B) (Good : S → Type 0) (written : S → 
               where
                 from : {s : S} → Cause bytes CutOff p s → length bytes < 4 * (p + 1)
                 from (no_word few cut) = few
-                from (a_word at) = true_is_not_false (sym at.own)
-                from (an_end at) = elim (at.by) [ inl wrong_end ↦ true_is_not_false (sym (ap at_end wrong_end.0)) | inr right ↦ true_is_not_false (sym right.3) ]
+                from (a_word at) = absurd (true≢false (sym at.own))
+                from (an_end at) = elim (at.by) [ inl wrong_end ↦ absurd (true≢false (sym (ap at_end wrong_end.0))) | inr right ↦ absurd (true≢false (sym right.3)) ]
 
             ends_wrong : EndsWrong f Good written may_end
             ends_wrong bytes p s e is = from (cause bytes WrongEnd p s e is)
               where
                 from : Cause bytes WrongEnd p s → (may_end s ≡ true) × (kind (word_at bytes p) ≡ 15) × ((word_at bytes p ≡ end_word p → ⊥) ⊎ (4 * (p + 1) < length bytes))
-                from (no_word few cut) = true_is_not_false (ap at_end cut)
-                from (a_word at) = true_is_not_false (sym at.own)
-                from (an_end at) = (at.may, at.is_end, elim (at.by) [ inl wrong_end ↦ wrong_end.1 | inr right ↦ true_is_not_false (sym right.3) ])
+                from (no_word few cut) = absurd (true≢false (ap at_end cut))
+                from (a_word at) = absurd (true≢false (sym at.own))
+                from (an_end at) = (at.may, at.is_end, elim (at.by) [ inl wrong_end ↦ wrong_end.1 | inr right ↦ absurd (true≢false (sym right.3)) ])
 
             book_refused : BookRefused f Good written may_end closes
             book_refused bytes r p s e own is = from (cause bytes r p s e is)
               where
                 from : Cause bytes r p s → (may_end s ≡ true) × (word_at bytes p ≡ end_word p) × (length bytes ≡ 4 * (p + 1)) × (first_failing book_tests (closes s) ≡ Some r)
-                from (no_word few cut) = true_is_not_false (sym own ∙ ap of_book cut)
-                from (a_word at) = true_is_not_false (sym at.own ∙ no_word_of r own)
-                from (an_end at) = elim (at.by) [ inl wrong_end ↦ true_is_not_false (sym own ∙ ap of_book wrong_end.0) | inr right ↦ (at.may, right.0, right.1, right.2) ]
+                from (no_word few cut) = absurd (true≢false (sym own ∙ ap of_book cut))
+                from (a_word at) = absurd (true≢false (sym at.own ∙ no_word_of r own))
+                from (an_end at) = elim (at.by) [ inl wrong_end ↦ absurd (true≢false (sym own ∙ ap of_book wrong_end.0)) | inr right ↦ (at.may, right.0, right.1, right.2) ]
 
             alike : Alike f
             alike a b r p e own same = alike_where a b r p (stopped a r p e) same (λ four end. no_end (cause a r p (stopped a r p e).draft e (stopped a r p e).is) four end)
@@ -438,8 +435,8 @@ module _ {S B : Type 0} (f : Format S B) (Good : S → Type 0) (written : S → 
                 no_end (no_word few cut) four end = absurd (omega (arith, left_of a p))
                 no_end (a_word at) four end = absurd (wrong_is_not_end (sym at.refuses_it ∙ ap (f.step (stopped a r p e).draft) (word_there p a at.there).1 ∙ end))
                 no_end (an_end at) four end = elim (at.by) [
-                  | inl wrong_end ↦ true_is_not_false (sym (ap at_end wrong_end.0) ∙ own)
-                  | inr right ↦ true_is_not_false (sym (end_of_book r right.3) ∙ own)
+                  | inl wrong_end ↦ absurd (true≢false (sym (ap at_end wrong_end.0) ∙ own))
+                  | inr right ↦ absurd (true≢false (sym (end_of_book r right.3) ∙ own))
                 ]
 
             -- the refusals of such a format are right

@@ -42,7 +42,7 @@ pub record DraftOf {S : Type 0} (Good : S → Type 0) (written : S → List ℕ)
   pub there : p ≤ length (words_of bytes)
   pub words : written s ≡ take p (words_of bytes)
 
--- where reading stops, the words before begin a good book
+-- where reading stops, the words before are those of a good draft
 abbrev pub Begins : {S B : Type 0} → Format S B → (S → Type 0) → (S → List ℕ) → Type 0
 Begins {S} f Good written = (bytes : List ℕ) (r : Refusal) (p : ℕ) → reading f bytes ≡ stop r p → (s : S) × DraftOf Good written bytes p s
 
@@ -50,7 +50,7 @@ Begins {S} f Good written = (bytes : List ℕ) (r : Refusal) (p : ℕ) → readi
 abbrev pub OneDraft : {S : Type 0} → (S → Type 0) → (S → List ℕ) → Type 0
 OneDraft {S} Good written = (bytes : List ℕ) (p : ℕ) (s t : S) → DraftOf Good written bytes p s → DraftOf Good written bytes p t → s ≡ t
 
--- with the word that is refused they begin none, and it is no end word that may come
+-- with the word that is refused they are those of none, and it is no end word that may come
 abbrev pub NoFurther : {S B : Type 0} → Format S B → (S → Type 0) → (S → List ℕ) → (S → Bool) → Type 0
 NoFurther {S} f Good written may_end =
     (bytes : List ℕ) (r : Refusal) (p : ℕ) (s : S) → reading f bytes ≡ stop r p → of_word r ≡ true → DraftOf Good written bytes p s
