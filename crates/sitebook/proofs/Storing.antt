@@ -18,8 +18,8 @@ use Rattle.sitelayout.specs.Kinds.{numbered, kind_of}
 use Rattle.sitelayout.specs.OneWord.{entry_in, head_of, mask_of, reward_of, entry_of, move_of}
 use Rattle.sitelayout.specs.Site.{Site, taken, total, valid}
 use Rattle.sitelayout.specs.Layout as layout
-use Rattle.sitelayout.specs.Layout.{Draft, fresh, marking, listing, moving, place_of, padded, marked, read_entry, moved, read_move, read_word, whole_book, site_format}
-use Rattle.sitelayout.proofs.Account.{more_is_no_end, padded-length, Good, word_kept, end_word_reads, whole_book_is, book_kept}
+use Rattle.sitelayout.specs.Layout.{Draft, fresh, marking, listing, moving, place_of, padded, marked, read_entry, moved, read_move, read_word, whole_book, site_format, Good}
+use Rattle.sitelayout.proofs.Account.{more_is_no_end, padded-length, word_kept, end_word_reads, whole_book_is, book_kept}
 use Rattle.sitelayout.proofs.OneWords.{head_fields, mask_fields, reward_fields, entry_fields, move_fields}
 use Rattle.siteverdict.specs.declared.Counts.{Counts}
 use Rattle.siteverdict.specs.Counting.{bound_of, Counted}

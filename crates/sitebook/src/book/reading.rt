@@ -1,8 +1,10 @@
 // Reading a site book: the verdict on the file first, and then the tables.
 ghost use Rattle.std.specs.Prelude.{◌≡◌, true, IfOk, MatchResult};
 ghost use Rattle.words.specs.Format.{Faithful, got, reading};
-ghost use Rattle.sitelayout.specs.Layout.{site_format, site_words};
+ghost use Rattle.words.specs.Refusing.{RefusesRightly};
+ghost use Rattle.sitelayout.specs.Layout.{site_format, site_words, Good, written};
 ghost use Rattle.sitelayout.specs.Site.{Site, valid};
+ghost use Rattle.sitelayout.specs.WordTests.{may_end, passes, closes};
 ghost use Rattle.siteverdict.specs.Counting.{Counted};
 ghost use Rattle.sitebook.specs.Contents.{contents};
 ghost use Rattle.sitebook.specs.Reading.{NotRead};
@@ -17,10 +19,11 @@ use std::alloc::{AllocError, Global};
 use words::next_word;
 
 // The book that a file is, or the first refusal and its place; want of memory only where the file is a book.
-#[tactic(auto, using(sitelayout::proofs::Way::site_faithful))]
+#[tactic(auto, using(sitelayout::proofs::Way::site_faithful, sitelayout::proofs::Refusing::site_refuses))]
 pub fn read_site(heap: Global, bytes: &[u8]) -> Result<SiteBook, Unread>
     ensures reads { MatchResult result (λ b. reading site_format bytes.now ≡ got (contents b)) (λ why. NotRead (reading site_format bytes.now) why) }
     ensures faithful { Faithful site_format (λ b. valid b ≡ true) site_words }
+    ensures refuses { RefusesRightly site_format Good written may_end passes closes }
 {
     let counts = verdict(bytes)?;
     Ok(stored(heap, bytes, counts)?)
