@@ -1,2 +1,3 @@
 pub mod Piles
 pub mod Pushing
+pub mod Stacks

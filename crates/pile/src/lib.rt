@@ -5,8 +5,10 @@
 mod build;
 mod floors;
 mod footing;
+mod laying;
 mod promise;
 
 pub use build::{Three, stack};
 pub use footing::{Footing, Pile};
+pub use laying::{Unlaid, lay_all, refusals};
 pub use promise::start_of;
