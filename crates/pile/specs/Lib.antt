@@ -1,3 +1,4 @@
 pub mod Piles
 pub mod Pushing
 pub mod Stacks
+pub mod Telling

@@ -63,4 +63,4 @@ pub record HasFloors {G : Type 0} (p : Stack G) (ws : List WishBook) : Type 0 wh
 
 -- the pile means all the books on the ground model
 abbrev pub IsPileOf : {G : Type 0} → (G → Model) → G → List WishBook → Stack G → Type 0
-IsPileOf mean ground ws p = meaning_of (meaning_of (meaning_of (λ f. mean f.bottom))) p ≡ piled (mean ground) (floors_in ws)
+IsPileOf mean bottom ws p = meaning_of (meaning_of (meaning_of (λ f. mean f.bottom))) p ≡ piled (mean bottom) (floors_in ws)

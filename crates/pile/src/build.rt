@@ -21,7 +21,7 @@ pub fn stack<G: GroundModel>(
     second: Option<WishBook>,
     third: Option<WishBook>,
 ) -> Three<G>
-    ensures ground { ground_of result ≡ bottom }
+    ensures bottom { ground_of result ≡ bottom }
     ensures books { books_of result ≡ first ∷ (second ∷ (third ∷ [])) }
     ensures meaning { meaning_of (meaning_of (meaning_of (λ f. G.SiteModel.meaning f.bottom))) result ≡ piled (G.SiteModel.meaning bottom) (option_map contents first ∷ (option_map contents second ∷ (option_map contents third ∷ []))) }
 {

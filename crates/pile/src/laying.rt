@@ -45,14 +45,14 @@ fn lay<M: SiteModel + Drop>(below: M, books: &[WishBook], floor: usize) -> Resul
 }
 
 // The pile of all the books, the first one lowest, or the first refusal. A fourth book is judged like any other, and never fits.
-pub fn lay_all<G: GroundModel + Drop>(ground: G, books: &[WishBook]) -> Result<Three<G>, Unlaid>
-    ensures ground { IfOk result (λ p. ground_of p ≡ ground) }
+pub fn lay_all<G: GroundModel + Drop>(bottom: G, books: &[WishBook]) -> Result<Three<G>, Unlaid>
+    ensures bottom { IfOk result (λ p. ground_of p ≡ bottom) }
     ensures floors { IfOk result (λ p. HasFloors p books.now) }
-    ensures laid { OnOk result (AllLaid (G.SiteModel.meaning ground) books.now) }
-    ensures meaning { IfOk result (IsPileOf G.SiteModel.meaning ground books.now) }
-    ensures refused { IfErr result (IsFirstRefused (G.SiteModel.meaning ground) books.now) }
+    ensures laid { OnOk result (AllLaid (G.SiteModel.meaning bottom) books.now) }
+    ensures meaning { IfOk result (IsPileOf G.SiteModel.meaning bottom books.now) }
+    ensures refused { IfErr result (IsFirstRefused (G.SiteModel.meaning bottom) books.now) }
 {
-    let one = lay(Footing::new(ground), books, 0)?;
+    let one = lay(Footing::new(bottom), books, 0)?;
     let two = lay(one, books, 1)?;
     let pile = lay(two, books, 2)?;
     if let Some(fourth) = books.get(3)

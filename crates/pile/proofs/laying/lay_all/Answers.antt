@@ -8,7 +8,7 @@ use Rattle.pile.proofs.laying.lay_all.Goals.{in_default-via-in-None-1, in_defaul
 
 pub returns-in_err-two-clause-refused : goal.returns-in_err-two-clause-refused
 returns-in_err-two-clause-refused g c =
-    let base = g.G.SiteModel.meaning c.args.ground in
+    let base = g.G.SiteModel.meaning c.args.bottom in
     let ws = c.args.books.now in
     let none = none_yet base ws _ (ap g.G.SiteModel.meaning c.new.ensures) in
     let one = one_more base ws 0 _ _ c.in_ok-one.one.book none (ap (λ f. g.G.SiteModel.meaning f.bottom) c.in_ok-one.ensures.below) c.in_ok-one.ensures.book c.in_ok-one.ensures.laid in
@@ -16,7 +16,7 @@ returns-in_err-two-clause-refused g c =
 
 pub returns-in_err-pile-clause-refused : goal.returns-in_err-pile-clause-refused
 returns-in_err-pile-clause-refused g c =
-    let base = g.G.SiteModel.meaning c.args.ground in
+    let base = g.G.SiteModel.meaning c.args.bottom in
     let ws = c.args.books.now in
     let none = none_yet base ws _ (ap g.G.SiteModel.meaning c.new.ensures) in
     let one = one_more base ws 0 _ _ c.in_ok-one.one.book none (ap (λ f. g.G.SiteModel.meaning f.bottom) c.in_ok-one.ensures.below) c.in_ok-one.ensures.book c.in_ok-one.ensures.laid in
@@ -25,7 +25,7 @@ returns-in_err-pile-clause-refused g c =
 
 pub returns-clause-refused : goal.returns-clause-refused
 returns-clause-refused g c =
-    let base = g.G.SiteModel.meaning c.args.ground in
+    let base = g.G.SiteModel.meaning c.args.bottom in
     let ws = c.args.books.now in
     let none = none_yet base ws _ (ap g.G.SiteModel.meaning c.new.ensures) in
     let one = one_more base ws 0 _ _ c.in_ok-one.one.book none (ap (λ f. g.G.SiteModel.meaning f.bottom) c.in_ok-one.ensures.below) c.in_ok-one.ensures.book c.in_ok-one.ensures.laid in
@@ -34,9 +34,9 @@ returns-clause-refused g c =
     let fourth = sym (item_copied ws 3 c.get.result c.get.ensures.lookup) ∙ ap option_copied c.in-Some.is in
     refused_at base ws 3 _ c.in-Some.fourth.now c.in-Some-refusal_on.refusal three fourth (sym c.refusal_on.ensures ∙ c.in-Some-refusal_on.is)
 
-stands : (g : Over) (c : goal.In_default g) → Stands (g.G.SiteModel.meaning c.args.ground) c.args.books.now 3 (meaning_of (meaning_of (meaning_of (λ f. g.G.SiteModel.meaning f.bottom))) c.in_ok-pile.pile)
+stands : (g : Over) (c : goal.In_default g) → Stands (g.G.SiteModel.meaning c.args.bottom) c.args.books.now 3 (meaning_of (meaning_of (meaning_of (λ f. g.G.SiteModel.meaning f.bottom))) c.in_ok-pile.pile)
 stands g c =
-    let base = g.G.SiteModel.meaning c.args.ground in
+    let base = g.G.SiteModel.meaning c.args.bottom in
     let ws = c.args.books.now in
     let none = none_yet base ws _ (ap g.G.SiteModel.meaning c.new.ensures) in
     let one = one_more base ws 0 _ _ c.in_ok-one.one.book none (ap (λ f. g.G.SiteModel.meaning f.bottom) c.in_ok-one.ensures.below) c.in_ok-one.ensures.book c.in_ok-one.ensures.laid in
@@ -46,7 +46,7 @@ stands g c =
 few : (g : Over) (c : goal.In_default g) → length c.args.books.now ≤ 3
 few g c = elim c.in_default.branch [
   | in_default-via-in-None-1 w ↦ search rules
-  | in_default-via-in-Some+in-None-1 w ↦ absurd (few_books _ _ (g.met.G.SiteModel.lawful c.args.ground) _ w.in-Some.fourth.now (stands g c) (sym (item_copied c.args.books.now 3 c.get.result c.get.ensures.lookup) ∙ ap option_copied w.in-Some.is) (search rules))
+  | in_default-via-in-Some+in-None-1 w ↦ absurd (few_books _ _ (g.met.G.SiteModel.lawful c.args.bottom) _ w.in-Some.fourth.now (stands g c) (sym (item_copied c.args.books.now 3 c.get.result c.get.ensures.lookup) ∙ ap option_copied w.in-Some.is) (search rules))
 ]
 
 pub returns-2-clause-floors : goal.returns-2-clause-floors
