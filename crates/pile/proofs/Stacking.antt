@@ -41,7 +41,7 @@ piled_next m (w ∷ ws) (suc k) = piled_next (over m (Some (contents w))) ws k
 piled_more : (m : Model) (ws : List WishBook) (k : ℕ) → over (piled m (floors_in (take k ws))) (floor_at ws k) ≡ piled m (floors_in (take (k + 1) ws))
 piled_more m ws k = let next : suc k ≡ k + 1 = omega arith in piled_next m ws k ∙ ap (λ j. piled m (floors_in (take j ws))) next
 
-over_laid : (m : Model) (b : Book) → refusal m b ≡ None → (over m (Some b)).span ≡ m.span * 65536
+pub over_laid : (m : Model) (b : Book) → refusal m b ≡ None → (over m (Some b)).span ≡ m.span * 65536
 over_laid m b e = ap (λ n. n.span) (cond-true (fits m b) (layered m b) m (fit_is m b None (sym e)))
 
 module _ (m : Model) (ws : List WishBook) where
