@@ -1,7 +1,8 @@
 // What is promised of every pile.
 ghost use Rattle.std.specs.Prelude.{◌≡◌, [], ◌∷◌};
-ghost use Rattle.layer.specs.Records.{MemoryTells, WishesShow};
+ghost use Rattle.layer.specs.Records.{MemoryTells, WishesShow, LabelsStay};
 ghost use Rattle.pile.specs.Piles.{piled, shown_on, Keeps};
+ghost use Rattle.pile.specs.Telling.{BitsTell};
 
 use crate::footing::Pile;
 
@@ -14,6 +15,8 @@ pub fn start_of<P: Pile>(pile: &P) -> u64
     ensures keeps { Keeps (P.Pile.base pile.now) (P.Pile.floors pile.now) }
     ensures memory { MemoryTells }
     ensures wishes { WishesShow }
+    ensures labels { LabelsStay }
+    ensures bits { BitsTell (P.Pile.base pile.now) (P.Pile.floors pile.now) }
 {
     pile.start()
 }
