@@ -1,3 +1,2 @@
-pub mod Advice
 pub mod Planning
 pub mod Writing

@@ -3,11 +3,11 @@
 #![tactic(auto)]
 
 mod figures;
-mod made;
+mod making;
 mod written;
 
-pub use figures::Figure;
-pub use made::{Plan, Room, SLOTS, plan_by};
+pub use figures::{Figure, figure_of};
+pub use making::{Room, SLOTS, plan_by};
 pub use written::{Book, STATES, WORDS, written_out};
 
 // How a plan weighs the outcomes of a choice: by their chances, or by the worst of them.
