@@ -18,9 +18,8 @@ impl Figure {
     pub fn of_worth(worth: i64, unit: u8, horizon: usize) -> Figure
         ensures negative { IsTrue result.negative ↔ (worth <ℤ pos 0) }
         ensures whole { result.whole ≡ unsigned_abs worth / parts_of unit horizon }
-        ensures thousandths {
-            result.thousandths ≡ unsigned_abs worth % parts_of unit horizon * 1000 / parts_of unit horizon
-        }
+        ensures thousandths { result.thousandths
+            ≡ unsigned_abs worth % parts_of unit horizon * 1000 / parts_of unit horizon }
     {
         Figure::new(worth, parts(unit, horizon))
     }
