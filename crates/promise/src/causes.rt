@@ -31,3 +31,11 @@ impl From<Unread> for Unplanned {
         }
     }
 }
+
+impl From<AllocError> for Unplanned {
+    ghost from_gives = { λ error why. why ≡ unplanned.Memory error };
+
+    fn from(error: AllocError) -> Unplanned {
+        Unplanned::Memory(error)
+    }
+}

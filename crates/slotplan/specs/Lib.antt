@@ -1,2 +1,4 @@
 pub mod Planning
 pub mod Writing
+pub mod Figures
+pub mod Telling

@@ -4,10 +4,12 @@
 
 mod figures;
 mod making;
+mod telling;
 mod written;
 
-pub use figures::{Figure, figure_of};
+pub use figures::Figure;
 pub use making::{Room, SLOTS, plan_by};
+pub use telling::figure_of;
 pub use written::{Book, STATES, WORDS, written_out};
 
 // How a plan weighs the outcomes of a choice: by their chances, or by the worst of them.

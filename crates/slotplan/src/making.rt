@@ -64,7 +64,7 @@ fn planned<P: Pile, W: Weighing>(
     ensures { PlansOr (W.meaning weighing.now) (P.Pile.base pile.now) (P.Pile.floors pile.now) (P.SiteModel.meaning pile.now) horizon result }
 {
     survey(pile, horizon)?;
-    let mut room = Room::new(heap).map_err(Unplanned::Memory)?;
+    let mut room = Room::new(heap)?;
     let mut tables = Tables {
         codes: room.codes.as_mut_slice(),
         bytes: room.bytes.as_mut_slice(),

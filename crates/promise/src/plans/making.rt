@@ -42,7 +42,7 @@ fn zeros(heap: Global, count: usize) -> Result<Vec<u8>, Unplanned>
     ensures items { IfOk result (λ v. v.items ≡ replicate count 0) }
     ensures memory { IfErr result OutOfMemory }
 {
-    vec![in heap; 0u8; count].map_err(Unplanned::Memory)
+    Ok(vec![in heap; 0u8; count]?)
 }
 
 // Plans on a book, and keeps the choices: as many as there is room for.
