@@ -1,4 +1,4 @@
--- A register keeps each key once, in the order of entry: entering a key puts it at the end of the list, unless one that is equal to it stands there.
+-- A register keeps, of keys that are equal, the first, in the order of entry: entering a key puts it at the end of the list, unless one that is equal to it stands there.
 -- Which keys are equal is told by a test of two keys, the key's own `==`. The place of a key is where the first that is equal to it stands, counted
 -- from 0, or the list's length where none does.
 use Rattle.std.specs.Prelude.{◌≡◌, ℕ, suc, ◌+◌, ◌<◌, ◌≤◌, Bool, true, false, cond, List, [], ◌∷◌, ◌++◌, length, take, drop, Some, None, Option, nat_lt, slice_index_or}
@@ -39,9 +39,9 @@ pub record KeptBy {K : Type 0} (Same : K → K → Type 0) (ks held : List K) : 
   pub once : DistinctBy Same held
   pub only : (x : K) → Has held x → Has ks x
   pub every : (x : K) → Has ks x → (y : K) × Has held y × Same x y
-  -- wherever one came that is the same as a key, the key had come, or came then
+  -- wherever one came that is the same as one that is held, this had come, or came then
   pub first : (j q : ℕ) (d : K) → j < length held → q < length ks → Same (slice_index_or ks q d) (slice_index_or held j d) → Has (take (q + 1) ks) (slice_index_or held j d)
-  -- wherever one came that is the same as the later of two keys, the earlier had come before
+  -- wherever one came that is the same as the later of two that are held, the earlier had come before
   pub order : (i j q : ℕ) (d : K) → i < j → j < length held → q < length ks → Same (slice_index_or ks q d) (slice_index_or held j d) → Has (take q ks) (slice_index_or held i d)
 
 abbrev pub Kept : {K : Type 0} → List K → List K → Type 0

@@ -1,4 +1,4 @@
-// A register keeps each key once, in the order of entry, in a table that it is lent.
+// A register keeps, of keys that are equal, the first, in the order of entry, in a table that it is lent.
 
 #![tactic(auto)]
 
