@@ -2,3 +2,4 @@ mod Advising
 mod Holding
 mod Planning
 mod Powers
+mod Printing

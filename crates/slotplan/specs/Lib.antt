@@ -1,3 +1,4 @@
 pub mod Advice
+pub mod Figures
 pub mod Planning
 pub mod Writing
