@@ -1,6 +1,7 @@
 use Rattle.std.proofs.Common.{◌+◌, ◌-◌, ◌*◌, ◌<◌, length, rules}
 use Rattle.std.specs.Vec.{vec_items}
-use Rattle.slotplan.proofs.Advising.{advised_at, item_copied}
+use Rattle.pile.proofs.Stacking.{item_copied}
+use Rattle.slotplan.proofs.Advising.{advised_at}
 use Rattle.slotplan.proofs.made.Plan.advice.Goals as goal
 
 pub returns : goal.returns
