@@ -114,12 +114,15 @@ fn four_books(rt: HostRuntime) -> Result<(), Fail> {
     assert_eq!(rt; lay_all(site(heap, &site_words())?, &four[..3]).err(), None);
     assert_eq!(rt;
         lay_all(site(heap, &site_words())?, &four).err(),
-        Some(Unlaid { floor: 3, refusal: Refusal::SpanPassed })
+        Some(Unlaid {
+            floor: 3,
+            refusal: Refusal::SpanPassed
+        })
     );
     let built = lay_each(heap, site(heap, &site_words())?, &four)?;
     assert_eq!(rt;
         built.refusals.as_slice(),
-        [None, None, None, Some(Refusal::SpanPassed)]
+        [None, None, None, Some(Refusal::SpanPassed)].as_slice()
     );
     assert_eq!(rt; built.pile.refusal(), None);
     Ok(())
@@ -136,13 +139,15 @@ fn second_of_three(rt: HostRuntime) -> Result<(), Fail> {
     ];
     assert_eq!(rt;
         lay_all(site(heap, &WAITING)?, &books).err(),
-        Some(Unlaid { floor: 1, refusal: Refusal::BoundPassed })
+        Some(Unlaid {
+            floor: 1,
+            refusal: Refusal::BoundPassed
+        })
     );
     let built = lay_each(heap, site(heap, &WAITING)?, &books)?;
-    assert_eq!(rt; built.refusals.as_slice(), [
-        None,
-        Some(Refusal::BoundPassed),
-        Some(Refusal::NoSuchLabel)
-    ]);
+    assert_eq!(rt;
+        built.refusals.as_slice(),
+        [None, Some(Refusal::BoundPassed), Some(Refusal::NoSuchLabel)].as_slice()
+    );
     Ok(())
 }
