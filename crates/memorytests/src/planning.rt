@@ -1,6 +1,6 @@
 // A plan on a pile is made whole, or memory ran out; then what the written-out book does not need is as it was.
 use crate::site::crossing;
-use promise::{Tables, Unplanned, Walks, plan_and_walk, write_pile};
+use promise::{Journey, Tables, Unplanned, Walks, plan_and_walk, write_pile};
 use refusal::Unread;
 use slotplan::{WeighBy, plan_by};
 use std::alloc::AllocError;
@@ -59,8 +59,20 @@ fn plan_and_walk_or_not(rt: HostRuntime) -> Result<(), Fail> {
         on_pile: &mut on_pile,
         in_book: &mut in_book,
     };
-    let planned = plan_and_walk(heap, &pile, &Mean, 2, &NUMBERS, &mut tables, &mut walks);
-    let why = planned.err();
+    let journey = plan_and_walk(heap, &pile, &Mean, 2, &NUMBERS, &mut tables, &mut walks);
+    let Journey {
+        plan,
+        on_pile: course,
+        in_book: second,
+    } = journey;
+    let why = plan.err();
+    assert_eq!(rt;
+        on_pile[1].sight,
+        course.last,
+        "the walk on the pile is told in either case"
+    );
+    assert!(rt; course.closed);
+    assert_eq!(rt; course.last.site, 1);
     assert_eq!(rt; codes, listed, "the codes are listed in either case");
     assert!(rt; bytes == book, "the book is written in either case");
     if why.is_none() {
@@ -69,15 +81,15 @@ fn plan_and_walk_or_not(rt: HostRuntime) -> Result<(), Fail> {
             [54000, 142200, 142200, 163840, 54000].as_slice()
         );
         assert_eq!(rt; &choices[5..], [0, 1, 1, 0, 0].as_slice());
-        assert_eq!(rt; on_pile[1].sight.site, 1);
         assert_eq!(rt; on_pile, in_book);
+        assert_eq!(rt; second, Some(course));
         println!(rt; "planned")?;
     } else {
         assert_eq!(rt; why, Some(Unplanned::Memory(AllocError)));
         assert_eq!(rt; worths, [7; 15]);
         assert_eq!(rt; choices, [7; 10]);
-        assert_eq!(rt; on_pile, [UNTOLD; 2]);
         assert_eq!(rt; in_book, [UNTOLD; 2]);
+        assert_eq!(rt; second, None);
         println!(rt; "want of memory: there is no plan")?;
     }
     Ok(())
@@ -97,7 +109,7 @@ fn largest_plan_or_not(rt: HostRuntime) -> Result<(), Fail> {
     match plan_by(heap, &pile, WeighBy::Mean, 2) {
         Ok(plan) => {
             for (state, action) in [0, 1, 1, 0, 0].into_iter().enumerate() {
-                assert_eq!(rt; plan.advice(0, state as u64), Some(action));
+                assert_eq!(rt; plan.choice(0, state as u64), Some(action));
             }
             println!(rt; "planned")?;
         }
