@@ -1,13 +1,11 @@
 -- What a plan tells is what it is: the choice for a slot in a listed state by the backward rule (`choice_is`, `choice_told`), and the advice
 -- to a walk on its book what the plan as a policy names after the record (`tell_told`, `advice_told`).
-use Rattle.std.proofs.Common.{◌≡◌, ℕ, ◌+◌, ◌-◌, ◌*◌, ◌<◌, ◌≤◌, Bool, true, false, cond, ◌&&◌, leb, ltb, List, length, get_or, Some, None, Option, Bor, refl, sym, ap, ◌∙◌, ⊎_elim, arith, mul_comm}
+use Rattle.std.proofs.Common.{◌≡◌, ℕ, ◌+◌, ◌-◌, ◌*◌, ◌<◌, ◌≤◌, Bool, true, false, cond, ◌&&◌, leb, ltb, List, length, get_or, Some, None, Option, refl, sym, ap, ◌∙◌, ⊎_elim, arith, mul_comm}
 use Rattle.std.specs.Prelude.{vec_items}
 use Rattle.std.specs.List.{slice_get}
-use Rattle.std.specs.Option.{option_copied}
-use Rattle.std.specs.Slice.{IsItemAt}
 use Rattle.std.proofs.lemmas.Bool.{and_from, and_left, cases_Bool, cond-false, cond-true, leb-true, leb-false, lt-ltb, le-ltb, ltb-true}
 use Rattle.std.proofs.lemmas.Nat.{div-mul-add, mod-mul-add, mul-add-lt}
-use Rattle.std.proofs.lemmas.Option.{slice_get-get_or, slice_get_past, slice_get_read}
+use Rattle.std.proofs.lemmas.Option.{slice_get-get_or}
 use Rattle.model.specs.Histories.{History}
 use Rattle.model.specs.Models.{Model}
 use Rattle.model.proofs.Paths.{some_history}
@@ -22,11 +20,6 @@ use Rattle.weighing.specs.Discounts.{discount_of}
 use Rattle.weighing.specs.Weighings.{Weigh}
 use Rattle.worth.specs.Policies.{Policy}
 use Rattle.worth.specs.Worths.{choice_of}
-
--- what is read at a place is what stands there
-pub item_copied : (xs : List ℕ) (i : ℕ) (r : Option (Bor ℕ)) → IsItemAt xs i r → option_copied r ≡ slice_get xs i
-item_copied xs i None at = sym (slice_get_past xs i at.3)
-item_copied xs i (Some x) at = sym (slice_get_read xs (length xs) i x.now refl at.3.0 at.1)
 
 module _ (w : Weigh) (g : Model) (fs : List Floor) (m : Model) (h : ℕ) (p : Plan) (is : IsPlanOf w g fs m h p) where
   -- the choice with so many slots left after, in a listed state

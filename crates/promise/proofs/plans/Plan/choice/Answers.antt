@@ -1,7 +1,8 @@
 use Rattle.std.proofs.Common.{◌≡◌, ◌+◌, ◌-◌, ◌*◌, ◌<◌, ap, ◌∙◌, arith}
 use Rattle.std.specs.List.{slice_get}
 use Rattle.promise.specs.Corresponding.{book_model}
-use Rattle.promise.proofs.Advised.{choice_told, item_copied}
+use Rattle.pile.proofs.Stacking.{item_copied}
+use Rattle.promise.proofs.Advised.{choice_told}
 use Rattle.writeout.specs.Copies.{by_origin}
 use Rattle.promise.proofs.plans.Plan.choice.Goals as goal
 
