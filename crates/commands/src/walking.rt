@@ -1,38 +1,46 @@
-// Walks on the written-out book of a pile, by numbers from the standard input.
+// Walks on the written-out book of a pile, by numbers that are read.
 use crate::build;
 use crate::options::{Command, Options};
 use crate::show::{Advice, Did, Seen};
-use slotplan::{Plan, SLOTS, WeighBy, plan_by};
+use slotplan::{Plan, plan_by};
 use std::fmt::Display;
-use std::io::{BufRead, BufReader};
+use std::io::BufRead;
+use std::rt::Files;
 use walk::{Turned, Walker};
 
-pub fn run(rt: &HostRuntime, words: &[String]) -> anyhow::Result<()> {
+pub fn run<R: Files + Print + AllocGlobal>(
+    rt: &R,
+    words: &[String],
+    numbers: impl BufRead + Drop,
+) -> anyhow::Result<()> {
     let heap = rt.alloc();
     let options = Options::parse(heap, Command::Walk, words)?;
-    let horizon = options.horizon_or(SLOTS);
-    let weighing = options.weighing_or(WeighBy::Mean);
+    let horizon = options.walk_horizon();
+    let weighing = options.walk_weighing();
     let pile = build::pile(rt, &options)?;
     let plan = plan_by(heap, &pile, weighing, horizon).map_err(build::unplanned)?;
     println!(rt;
         "A number chooses an action, and the next one tells its outcome. Totals count 256ths of a reward."
     )?;
-    walk(rt, &plan)
+    walk(rt, &plan, numbers)
 }
 
-// From the start to the end of the input.
-fn walk(rt: &HostRuntime, plan: &Plan) -> anyhow::Result<()> {
-    let heap = rt.alloc();
+// From the start to the end of the numbers.
+fn walk<R: Print + AllocGlobal>(
+    rt: &R,
+    plan: &Plan,
+    numbers: impl BufRead + Drop,
+) -> anyhow::Result<()> {
     let mut walker = Walker::open(&plan.planned.book);
     stands(rt, plan, &walker, "The walk is opened.")?;
-    for line in BufReader::new(heap, rt.stdin())?.lines(heap) {
+    for line in numbers.lines(rt.alloc()) {
         walker = answer(rt, plan, walker, line?.as_str())?;
     }
     close(rt, plan, walker)
 }
 
 // What a line does to the walk: one that is no number does nothing.
-fn answer(rt: &HostRuntime, plan: &Plan, walker: Walker, line: &str) -> anyhow::Result<Walker> {
+fn answer(rt: &impl Print, plan: &Plan, walker: Walker, line: &str) -> anyhow::Result<Walker> {
     let Ok(number) = line.trim().parse::<u32>() else {
         println!(rt; "{line:?} is no number, and is skipped.")?;
         return Ok(walker);
@@ -54,7 +62,7 @@ fn answer(rt: &HostRuntime, plan: &Plan, walker: Walker, line: &str) -> anyhow::
 
 // What happened, what the walk has after it, and what the plan advises then.
 fn stands(
-    rt: &HostRuntime,
+    rt: &impl Print,
     plan: &Plan,
     walker: &Walker,
     happened: impl Display + Drop,
@@ -66,7 +74,7 @@ fn stands(
 }
 
 // Ends the walk where it can end.
-fn close(rt: &HostRuntime, plan: &Plan, walker: Walker) -> anyhow::Result<()> {
+fn close(rt: &impl Print, plan: &Plan, walker: Walker) -> anyhow::Result<()> {
     match walker.end(&plan.planned.book) {
         Ok(sight) => {
             let slot = sight.slot;

@@ -2,8 +2,9 @@
 use crate::options::{Command, Options};
 use crate::{build, show};
 use slotplan::plan_by;
+use std::rt::Files;
 
-pub fn run(rt: &HostRuntime, words: &[String]) -> anyhow::Result<()> {
+pub fn run<R: Files + Print + AllocGlobal>(rt: &R, words: &[String]) -> anyhow::Result<()> {
     let heap = rt.alloc();
     let options = Options::parse(heap, Command::Plan, words)?;
     let horizon = options.horizon()?;

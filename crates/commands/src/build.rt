@@ -8,14 +8,18 @@ use refusal::Refusal;
 use rulebook::read_rule;
 use sitebook::read_site;
 use std::fs;
+use std::rt::Files;
 use wishbook::{WishBook, read_wish};
 
 // Where a book does not read or is not laid, the error says which file it stands in, and why.
-pub fn pile(rt: &HostRuntime, options: &Options) -> anyhow::Result<Three<GroundBook>> {
+pub fn pile<R: Files + AllocGlobal>(
+    rt: &R,
+    options: &Options,
+) -> anyhow::Result<Three<GroundBook>> {
     let ground = ground(rt, options.ground()?)?;
     let mut books = Vec::new(rt.alloc());
     for file in options.wishes() {
-        books.push(wish(rt, file)?)?;
+        books.push(wish(rt, file).context(format_args!("{file}"))?)?;
     }
     let book = |i: usize| books.get(i).copied();
     let pile = stack(ground, book(0), book(1), book(2));
@@ -27,26 +31,26 @@ pub fn pile(rt: &HostRuntime, options: &Options) -> anyhow::Result<Three<GroundB
     Ok(pile)
 }
 
-fn ground(rt: &HostRuntime, ground: GroundFile) -> anyhow::Result<GroundBook> {
+fn ground<R: Files + AllocGlobal>(rt: &R, ground: GroundFile) -> anyhow::Result<GroundBook> {
     match ground {
         GroundFile::Site(file) => site(rt, file).context(format_args!("{file}")),
         GroundFile::Rule(file) => rule(rt, file).context(format_args!("{file}")),
     }
 }
 
-fn site(rt: &HostRuntime, file: &str) -> anyhow::Result<GroundBook> {
+fn site<R: Files + AllocGlobal>(rt: &R, file: &str) -> anyhow::Result<GroundBook> {
     let bytes = fs::read(rt, file)?;
     Ok(GroundBook::Site(read_site(rt.alloc(), bytes.as_slice())?))
 }
 
-fn rule(rt: &HostRuntime, file: &str) -> anyhow::Result<GroundBook> {
+fn rule<R: Files + AllocGlobal>(rt: &R, file: &str) -> anyhow::Result<GroundBook> {
     let bytes = fs::read(rt, file)?;
     Ok(GroundBook::Rule(read_rule(bytes.as_slice())?))
 }
 
-fn wish(rt: &HostRuntime, file: &str) -> anyhow::Result<WishBook> {
+fn wish<R: Files + AllocGlobal>(rt: &R, file: &str) -> anyhow::Result<WishBook> {
     let bytes = fs::read(rt, file)?;
-    read_wish(bytes.as_slice()).context(format_args!("{file}"))
+    Ok(read_wish(bytes.as_slice())?)
 }
 
 // Why each book is not laid, the lowest first.

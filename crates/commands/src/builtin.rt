@@ -38,7 +38,7 @@ const BLANK: Step = Step {
 };
 
 // Reads both books, lays the wish on the site, follows a crossing, plans, and walks.
-pub fn run(rt: &HostRuntime) -> anyhow::Result<()> {
+pub fn run<R: Print + AllocGlobal>(rt: &R) -> anyhow::Result<()> {
     let heap = rt.alloc();
     println!(rt; "the built-in crossing: label p0 is \"train\", label p1 is \"swept\"")?;
     let site = read_site(heap, bytes_of(heap, &site_words())?.as_slice())?;
@@ -59,7 +59,7 @@ pub fn run(rt: &HostRuntime) -> anyhow::Result<()> {
 }
 
 // Slot by slot: the site's state, what is remembered, and whether the wish holds.
-fn follow(rt: &HostRuntime, pile: &Three<GroundBook>) -> anyhow::Result<()> {
+fn follow(rt: &impl Print, pile: &Three<GroundBook>) -> anyhow::Result<()> {
     let mut state = start_of(pile);
     slot(rt, pile, 0, state)?;
     for (i, (action, outcome)) in STEPS.into_iter().enumerate() {
@@ -72,7 +72,7 @@ fn follow(rt: &HostRuntime, pile: &Three<GroundBook>) -> anyhow::Result<()> {
 }
 
 // The whole job by one call: writes the pile out, plans on its book, and walks on both.
-fn plan_and_follow(rt: &HostRuntime, pile: &Three<GroundBook>) -> anyhow::Result<()> {
+fn plan_and_follow<R: Print + AllocGlobal>(rt: &R, pile: &Three<GroundBook>) -> anyhow::Result<()> {
     let heap = rt.alloc();
     let mut room = Room::new(heap)?;
     let mut on_pile = [BLANK; NUMBERS.len()];
@@ -110,7 +110,7 @@ fn plan_and_follow(rt: &HostRuntime, pile: &Three<GroundBook>) -> anyhow::Result
 
 // The listed states, in the order in which they are found, and how large their book is.
 fn written(
-    rt: &HostRuntime,
+    rt: &impl Print,
     pile: &Three<GroundBook>,
     planned: &Planned,
     codes: &[u64],
@@ -126,7 +126,7 @@ fn written(
 }
 
 // What was told of each number on the pile and in the book. A walker beside them knows where the plan is to be read.
-fn walked(rt: &HostRuntime, plan: &Plan, on_pile: &[Step], in_book: &[Step]) -> anyhow::Result<()> {
+fn walked(rt: &impl Print, plan: &Plan, on_pile: &[Step], in_book: &[Step]) -> anyhow::Result<()> {
     println!(rt;
         "a walk of two slots, on the pile and in its book; totals count 256ths of a reward:"
     )?;
@@ -164,7 +164,7 @@ fn walked(rt: &HostRuntime, plan: &Plan, on_pile: &[Step], in_book: &[Step]) -> 
 }
 
 fn slot(
-    rt: &HostRuntime,
+    rt: &impl Print,
     pile: &Three<GroundBook>,
     number: usize,
     state: u64,

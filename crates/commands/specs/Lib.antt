@@ -1,0 +1,4 @@
+pub mod Asked
+pub mod Kinds
+pub mod Lines
+pub mod Status
