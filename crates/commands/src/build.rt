@@ -2,6 +2,7 @@
 use crate::options::{GroundFile, Options};
 use anyhow::{Context, Error, anyhow};
 use ground::GroundBook;
+use layer::Layer;
 use pile::{Three, stack};
 use promise::Unplanned;
 use refusal::Refusal;
@@ -28,7 +29,16 @@ pub fn pile<R: Files + AllocGlobal>(
             return Err(refused(refusal).context(format_args!("{file}")));
         }
     }
-    Ok(pile)
+    match (book(3), options.wishes().get(3)) {
+        (Some(fourth), Some(file)) => Err(unlaid(pile, fourth).context(format_args!("{file}"))),
+        _ => Ok(pile),
+    }
+}
+
+// Why a fourth book is not laid: it is judged like any other, and three layers are too large for another.
+fn unlaid(pile: Three<GroundBook>, fourth: WishBook) -> Error {
+    let refusal = Layer::new(pile, Some(fourth)).refusal();
+    refused(refusal.unwrap_or(Refusal::SpanPassed))
 }
 
 fn ground<R: Files + AllocGlobal>(rt: &R, ground: GroundFile) -> anyhow::Result<GroundBook> {

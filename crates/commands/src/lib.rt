@@ -77,7 +77,7 @@ fn usage(aside: &impl Eprint) -> anyhow::Result<u8>
         "       moratennis walk GROUND.. [--horizon N] [--weighing mean|worst]   walks by numbers that it reads: a choice, then its outcome",
     )?;
     aside.eprintln(
-        "GROUND..: --site FILE or --rule FILE, and up to three wish books laid on it, --wish FILE",
+        "GROUND..: --site FILE or --rule FILE, and the wish books laid on it, --wish FILE, the lowest first",
     )?;
     Ok(REFUSED)
 }
