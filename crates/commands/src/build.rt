@@ -1,13 +1,22 @@
 // Building the pile of the books that options name.
-use crate::options::{GroundFile, Options};
-use anyhow::{Context, Error, anyhow};
+ghost use Rattle.anyhow.specs.Error.{HasMessage};
+ghost use Rattle.commands.specs.Built.{NamesRefused};
+ghost use Rattle.pile.specs.Stacks.{AllLaid, HasFloors, ground_of};
+ghost use Rattle.promise.specs.WholePlan.{IsPlanOf};
+ghost use Rattle.slotplan.specs.Planning.{weigh_of};
+ghost use Rattle.std.specs.Prelude.{◌≡◌, IfErr, IfOk, IfSome, OnOk, Some, option_map, slice_get};
+
+use crate::options::{Asked, GroundFile, Options};
+use anyhow::{Context, Error};
 use ground::GroundBook;
-use layer::Layer;
-use pile::{Three, stack};
-use promise::Unplanned;
-use refusal::Refusal;
+use model::SiteModel;
+use pile::{Pile, Three, Unlaid, lay_all};
+use promise::{Plan, Unplanned};
+use refusal::{Refusal, Refused};
 use rulebook::read_rule;
 use sitebook::read_site;
+use slotplan::plan_by;
+use std::alloc::Global;
 use std::fs;
 use std::rt::Files;
 use wishbook::{WishBook, read_wish};
@@ -22,23 +31,32 @@ pub fn pile<R: Files + AllocGlobal>(
     for file in options.wishes() {
         books.push(wish(rt, file).context(format_args!("{file}"))?)?;
     }
-    let book = |i: usize| books.get(i).copied();
-    let pile = stack(ground, book(0), book(1), book(2));
-    for (file, refusal) in options.wishes().iter().zip(refusals(&pile)) {
-        if let Some(refusal) = refusal {
-            return Err(refused(refusal).context(format_args!("{file}")));
-        }
-    }
-    match (book(3), options.wishes().get(3)) {
-        (Some(fourth), Some(file)) => Err(unlaid(pile, fourth).context(format_args!("{file}"))),
-        _ => Ok(pile),
+    laid(ground, books.as_slice(), options.wishes())
+}
+
+// All the books on the ground model, the first one lowest; their files, in the same order, are for the error.
+fn laid(
+    ground: GroundBook,
+    books: &[WishBook],
+    files: &[&str],
+) -> anyhow::Result<Three<GroundBook>>
+    ensures bottom { IfOk result (λ pile. ground_of pile ≡ ground) }
+    ensures floors { IfOk result (λ pile. HasFloors pile books.now) }
+    ensures all { OnOk result (AllLaid (GroundBook.SiteModel.meaning ground) books.now) }
+    ensures refused { IfErr result (NamesRefused (GroundBook.SiteModel.meaning ground) books.now (λ floor. option_map (λ file. file.now) (slice_get files.now floor))) }
+{
+    match lay_all(ground, books) {
+        Ok(pile) => Ok(pile),
+        Err(unlaid) => Err(named(unlaid, files)),
     }
 }
 
-// Why a fourth book is not laid: it is judged like any other, and three layers are too large for another.
-fn unlaid(pile: Three<GroundBook>, fourth: WishBook) -> Error {
-    let refusal = Layer::new(pile, Some(fourth)).refusal();
-    refused(refusal.unwrap_or(Refusal::SpanPassed))
+// Why a book is not laid, with its file.
+fn named(unlaid: Unlaid, files: &[&str]) -> Error
+    ensures { IfSome (option_map (λ file. file.now) (slice_get files.now unlaid.floor)) (λ file. HasMessage (Some file) result) }
+{
+    let file = files.get(unlaid.floor).copied().unwrap_or("");
+    refused(unlaid.refusal).context(format_args!("{file}"))
 }
 
 fn ground<R: Files + AllocGlobal>(rt: &R, ground: GroundFile) -> anyhow::Result<GroundBook> {
@@ -63,13 +81,11 @@ fn wish<R: Files + AllocGlobal>(rt: &R, file: &str) -> anyhow::Result<WishBook> 
     Ok(read_wish(bytes.as_slice())?)
 }
 
-// Why each book is not laid, the lowest first.
-fn refusals(pile: &Three<GroundBook>) -> [Option<Refusal>; 3] {
-    [
-        pile.below().below().refusal(),
-        pile.below().refusal(),
-        pile.refusal(),
-    ]
+// The plan that is asked for.
+pub fn plan<P: Pile>(heap: Global, pile: &P, asked: Asked) -> anyhow::Result<Plan>
+    ensures { IfOk result (IsPlanOf (weigh_of asked.weighing) (P.Pile.base pile.now) (P.Pile.floors pile.now) (P.SiteModel.meaning pile.now) asked.horizon) }
+{
+    plan_by(heap, pile, asked.weighing, asked.horizon).map_err(unplanned)
 }
 
 // Why no plan was made.
@@ -82,6 +98,5 @@ pub fn unplanned(why: Unplanned) -> Error {
 
 // A refusal that is about no word.
 pub fn refused(refusal: Refusal) -> Error {
-    let number = refusal.number();
-    anyhow!("refused: {number}: {refusal}")
+    Refused { refusal }.into()
 }

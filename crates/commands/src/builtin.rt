@@ -1,18 +1,19 @@
 // The built-in crossing: a three-state site, and the wish "swept and previous train" worth 10.
 use crate::build::unplanned;
 use crate::show;
-use crate::show::{Advice, Did, Seen};
+use crate::show::{Advised, Closed, Did, Seen};
 use anyhow::Context;
 use crossing::{site_words, wish_words};
 use ground::GroundBook;
 use model::{SiteModel, reachable_at};
 use pile::{Three, stack, start_of};
-use promise::{Planned, Tables, Walks, plan_and_walk};
+use promise::{Journey, Plan, Tables, Walks, plan_and_walk};
 use sitebook::read_site;
-use slotplan::{Plan, Room};
+use slotplan::Room;
+use std::fmt;
 use truth::shows;
 use walk::{Sight, Step, Walker};
-use weighing::{Mean, Weighing};
+use weighing::Mean;
 use wishbook::read_wish;
 use words::bytes_of;
 use writeout::Written;
@@ -75,8 +76,8 @@ fn follow(rt: &impl Print, pile: &Three<GroundBook>) -> anyhow::Result<()> {
 fn plan_and_follow<R: Print + AllocGlobal>(rt: &R, pile: &Three<GroundBook>) -> anyhow::Result<()> {
     let heap = rt.alloc();
     let mut room = Room::new(heap)?;
-    let mut on_pile = [BLANK; NUMBERS.len()];
-    let mut in_book = [BLANK; NUMBERS.len()];
+    let mut pile_steps = [BLANK; NUMBERS.len()];
+    let mut book_steps = [BLANK; NUMBERS.len()];
     let mut tables = Tables {
         codes: room.codes.as_mut_slice(),
         bytes: room.bytes.as_mut_slice(),
@@ -84,10 +85,14 @@ fn plan_and_follow<R: Print + AllocGlobal>(rt: &R, pile: &Three<GroundBook>) -> 
         choices: room.choices.as_mut_slice(),
     };
     let mut walks = Walks {
-        on_pile: &mut on_pile,
-        in_book: &mut in_book,
+        on_pile: &mut pile_steps,
+        in_book: &mut book_steps,
     };
-    let planned = plan_and_walk(
+    let Journey {
+        plan,
+        on_pile,
+        in_book,
+    } = plan_and_walk(
         heap,
         pile,
         &Mean,
@@ -95,27 +100,32 @@ fn plan_and_follow<R: Print + AllocGlobal>(rt: &R, pile: &Three<GroundBook>) -> 
         &NUMBERS,
         &mut tables,
         &mut walks,
-    )
-    .map_err(unplanned)?;
-    written(rt, pile, &planned, room.codes.as_slice())?;
-    let plan = Plan {
-        planned,
-        horizon: HORIZON,
-        unit: Mean.unit(),
-        choices: room.choices,
-    };
+    );
+    let plan = plan.map_err(unplanned)?;
+    written(rt, pile, &plan, room.codes.as_slice())?;
     show::plan(rt, &plan)?;
-    walked(rt, &plan, &on_pile, &in_book)
+    println!(rt;
+        "a walk of two slots, on the pile and in its book; totals count 256ths of a reward:"
+    )?;
+    let opened = in_book.is_some_and(|book| book.opening == on_pile.opening);
+    opening(rt, &plan, on_pile.opening, opened)?;
+    walked(rt, &plan, &pile_steps, &book_steps)?;
+    println!(rt;
+        "  {} {}",
+        Closed(on_pile.closed.then_some(on_pile.last)),
+        Same(in_book == Some(on_pile))
+    )?;
+    Ok(())
 }
 
 // The listed states, in the order in which they are found, and how large their book is.
 fn written(
     rt: &impl Print,
     pile: &Three<GroundBook>,
-    planned: &Planned,
+    plan: &Plan,
     codes: &[u64],
 ) -> anyhow::Result<()> {
-    let Written { states, words } = planned.written;
+    let Written { states, words } = plan.written();
     println!(rt; "written out: a site book of {states} states and {words} words")?;
     for (place, code) in codes.iter().take(states).enumerate() {
         let site = pile.ground(*code);
@@ -125,40 +135,46 @@ fn written(
     Ok(())
 }
 
-// What was told of each number on the pile and in the book. A walker beside them knows where the plan is to be read.
-fn walked(rt: &impl Print, plan: &Plan, on_pile: &[Step], in_book: &[Step]) -> anyhow::Result<()> {
-    println!(rt;
-        "a walk of two slots, on the pile and in its book; totals count 256ths of a reward:"
-    )?;
-    let mut walker = Walker::open(&plan.planned.book);
-    println!(rt;
-        "  The walk is opened. {}",
-        Advice {
-            plan,
-            walker: &walker
-        }
-    )?;
-    for (number, (pile, book)) in NUMBERS.iter().zip(on_pile.iter().zip(in_book)) {
+// Whether the walk in the book is told the same as that on the pile.
+#[derive(Clone, Copy)]
+struct Same(bool);
+
+impl fmt::Display for Same {
+    fn fmt<W: fmt::Write>(&self, f: &mut fmt::Formatter<W>) -> fmt::Result {
+        f.write_str(if self.0 {
+            "The same in the book."
+        } else {
+            "Not so in the book."
+        })
+    }
+}
+
+fn opening(rt: &impl Print, plan: &Plan, sight: Sight, same: bool) -> anyhow::Result<()> {
+    let advice = Advised(plan.advice(&Walker::open(plan.book())));
+    println!(rt; "  The walk is opened. {} {} {advice}", Seen(sight), Same(same))?;
+    Ok(())
+}
+
+// What was told of each number on the pile and in the book. A walker beside them stands where the plan is asked for its advice.
+fn walked(
+    rt: &impl Print,
+    plan: &Plan,
+    pile_steps: &[Step],
+    book_steps: &[Step],
+) -> anyhow::Result<()> {
+    let mut walker = Walker::open(plan.book());
+    for (number, (on_pile, in_book)) in NUMBERS.iter().zip(pile_steps.iter().zip(book_steps)) {
         let told = walker.is_choosing();
         let happened = Did {
             number: *number,
             told,
-            refusal: pile.refusal,
+            refusal: on_pile.refusal,
         };
-        walker = walker.turn(&plan.planned.book, *number).walker;
-        let seen = Seen(pile.sight);
-        let same = if pile == book {
-            "The same in the book."
-        } else {
-            "Not so in the book."
-        };
-        println!(rt;
-            "  {happened} {seen} {same} {}",
-            Advice {
-                plan,
-                walker: &walker
-            }
-        )?;
+        walker = walker.turn(plan.book(), *number).walker;
+        let seen = Seen(on_pile.sight);
+        let same = Same(on_pile == in_book);
+        let advice = Advised(plan.advice(&walker));
+        println!(rt; "  {happened} {seen} {same} {advice}")?;
     }
     Ok(())
 }

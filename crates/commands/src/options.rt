@@ -1,6 +1,6 @@
 // The options of the commands that build a pile.
 ghost use Rattle.commands.specs.Asked.{Holds, Takes, option_word, values_of, weighing_word};
-ghost use Rattle.std.specs.Prelude.{◌≡◌, ◌≢◌, None, Some, IfOk, IfSome, IsNone, OnErr, OnOk, map, string_bytes, unwrap_or};
+ghost use Rattle.std.specs.Prelude.{◌≡◌, ◌≢◌, ◌⊎◌, None, Some, IfOk, IfSome, IsNone, OnErr, OnOk, map, string_bytes, unwrap_or};
 ghost use Rattle.std.specs.Str.Parse.{ParsesUnsigned};
 
 use anyhow::{Context, bail};
@@ -60,6 +60,13 @@ impl Name {
 pub enum GroundFile<'a> {
     Site(&'a str),
     Rule(&'a str),
+}
+
+// How many slots a plan has, and how it weighs the outcomes of a choice.
+#[derive(Clone, Copy, Debug, PartialEq, Eq)]
+pub struct Asked {
+    pub horizon: usize,
+    pub weighing: WeighBy,
 }
 
 // The files and the numbers that options name; each command asks for those that it needs.
@@ -136,32 +143,30 @@ impl<'a> Options<'a> {
         self.to.context("a file to write to is wanted: --to FILE")
     }
 
-    pub fn horizon(&self) -> anyhow::Result<usize>
-        ensures given { IfOk result (λ slots. self.now.horizon ≡ Some slots) }
-        ensures wanted { OnErr result (IsNone self.now.horizon) }
+    // The plan that is asked for; how long it is and how it weighs have to be said.
+    pub fn plan(&self) -> anyhow::Result<Asked>
+        ensures horizon { IfOk result (λ asked. self.now.horizon ≡ Some asked.horizon) }
+        ensures weighing { IfOk result (λ asked. self.now.weighing ≡ Some asked.weighing) }
+        ensures wanted { OnErr result (IsNone self.now.horizon ⊎ IsNone self.now.weighing) }
     {
-        self.horizon
-            .context("a number of slots is wanted: --horizon N")
+        let horizon = self
+            .horizon
+            .context("a number of slots is wanted: --horizon N")?;
+        let weighing = self
+            .weighing
+            .context("a weighing is wanted: --weighing mean or --weighing worst")?;
+        Ok(Asked { horizon, weighing })
     }
 
-    pub fn weighing(&self) -> anyhow::Result<WeighBy>
-        ensures given { IfOk result (λ weighing. self.now.weighing ≡ Some weighing) }
-        ensures wanted { OnErr result (IsNone self.now.weighing) }
+    // The plan of a walk: as far as it can go, by chances, where it is not said.
+    pub fn walk_plan(&self) -> Asked
+        ensures horizon { result.horizon ≡ unwrap_or self.now.horizon 12 }
+        ensures weighing { result.weighing ≡ unwrap_or self.now.weighing WeighBy.Mean }
     {
-        self.weighing.context("a weighing is wanted: --weighing mean or --weighing worst")
-    }
-
-    // A walk is planned as far as it can go, by chances, where it is not told.
-    pub fn walk_horizon(&self) -> usize
-        ensures { result ≡ unwrap_or self.now.horizon 12 }
-    {
-        self.horizon.unwrap_or(SLOTS)
-    }
-
-    pub fn walk_weighing(&self) -> WeighBy
-        ensures { result ≡ unwrap_or self.now.weighing WeighBy.Mean }
-    {
-        self.weighing.unwrap_or(WeighBy::Mean)
+        Asked {
+            horizon: self.horizon.unwrap_or(SLOTS),
+            weighing: self.weighing.unwrap_or(WeighBy::Mean),
+        }
     }
 }
 

@@ -1,11 +1,12 @@
 // Books and formulas as people read them.
 use formula::Node;
 use model::{Numbered, Outcome, SiteModel};
+use promise::{Advice, Plan};
 use refusal::Refusal;
-use slotplan::Plan;
+use slotplan::figure_of;
 use std::fmt;
 use truth::shows;
-use walk::{Sight, Walker};
+use walk::Sight;
 use wishbook::WishBook;
 
 // The labels of a mask, as `p0 p3`, or `-` where there are none. Joined by hand, as `Leads` is: the library joins on a heap.
@@ -102,21 +103,16 @@ pub fn states<M: Numbered>(rt: &impl Print, model: &M) -> anyhow::Result<()> {
 
 // How large a plan is, what its start is worth, and what to do slot by slot: a line for each listed state, a column for each slot.
 pub fn plan(rt: &impl Print, plan: &Plan) -> anyhow::Result<()> {
-    let Plan {
-        planned,
-        horizon,
-        unit,
-        ..
-    } = plan;
-    let states = planned.written.states;
-    let worth = planned.worth;
-    let figure = plan.figure();
-    let kind = if *unit == 1 { "least" } else { "expected" };
+    let horizon = plan.horizon();
+    let states = plan.written().states;
+    let worth = plan.worth();
+    let figure = figure_of(plan);
+    let kind = if plan.unit() == 1 { "least" } else { "expected" };
     println!(rt; "a plan of {horizon} slots on a book of {states} states")?;
     println!(rt; "the start is worth {worth}: the {kind} sum of discounted rewards is {figure}")?;
     println!(rt; "what to do in each state, slot by slot:")?;
-    println!(rt; "{}", Head(*horizon))?;
-    for state in 0..planned.book.count() as u64 {
+    println!(rt; "{}", Head(horizon))?;
+    for state in 0..plan.book().count() as u64 {
         println!(rt; "{}", Row { plan, state })?;
     }
     Ok(())
@@ -146,12 +142,12 @@ struct Row<'a> {
 impl fmt::Display for Row<'_> {
     fn fmt<W: fmt::Write>(&self, f: &mut fmt::Formatter<W>) -> fmt::Result {
         let Row { plan, state } = self;
-        let book = &plan.planned.book;
+        let book = plan.book();
         let site = book.ground(*state);
         let labels = Labels(book.mask(*state));
         write!(f, "{state:>5}  {site:>10}")?;
-        for slot in 0..plan.horizon {
-            let action = plan.advice(slot, *state).unwrap_or(0);
+        for slot in 0..plan.horizon() {
+            let action = plan.choice(slot, *state).unwrap_or(0);
             write!(f, "  {action:<7}")?;
         }
         write!(f, "  {labels}")
@@ -179,21 +175,32 @@ impl fmt::Display for Seen {
 
 // What a plan advises where a walk stands.
 #[derive(Clone, Copy)]
-pub struct Advice<'a> {
-    pub plan: &'a Plan,
-    pub walker: &'a Walker,
+pub struct Advised(pub Advice);
+
+impl fmt::Display for Advised {
+    fn fmt<W: fmt::Write>(&self, f: &mut fmt::Formatter<W>) -> fmt::Result {
+        match self.0 {
+            Advice::Tell => f.write_str("Its outcome is to be told."),
+            Advice::Choose(action) => write!(f, "The plan advises action {action}."),
+            Advice::Ended => f.write_str("The plan ends here."),
+        }
+    }
 }
 
-impl fmt::Display for Advice<'_> {
+// What a walk has at its end, where it is closed.
+#[derive(Clone, Copy)]
+pub struct Closed(pub Option<Sight>);
+
+impl fmt::Display for Closed {
     fn fmt<W: fmt::Write>(&self, f: &mut fmt::Formatter<W>) -> fmt::Result {
-        let Advice { plan, walker } = self;
-        if walker.is_choosing() {
-            return f.write_str("Its outcome is to be told.");
-        }
-        let slot = walker.sight(&plan.planned.book).slot;
-        match plan.advice(slot, walker.state()) {
-            Some(action) => write!(f, "The plan advises action {action}."),
-            None => f.write_str("The plan ends here."),
+        match self.0 {
+            Some(Sight { slot, total, .. }) => write!(
+                f,
+                "The walk is closed in slot {slot}, with a total of {total}."
+            ),
+            None => f.write_str(
+                "The walk is not closed: an outcome of the open choice was not told.",
+            ),
         }
     }
 }

@@ -1,8 +1,8 @@
 // Walks on the written-out book of a pile, by numbers that are read.
 use crate::build;
 use crate::options::{Command, Options};
-use crate::show::{Advice, Did, Seen};
-use slotplan::{Plan, plan_by};
+use crate::show::{Advised, Closed, Did, Seen};
+use promise::Plan;
 use std::fmt::Display;
 use std::io::BufRead;
 use std::rt::Files;
@@ -15,10 +15,7 @@ pub fn run<R: Files + Print + AllocGlobal>(
 ) -> anyhow::Result<()> {
     let heap = rt.alloc();
     let options = Options::parse(heap, Command::Walk, words)?;
-    let horizon = options.walk_horizon();
-    let weighing = options.walk_weighing();
-    let pile = build::pile(rt, &options)?;
-    let plan = plan_by(heap, &pile, weighing, horizon).map_err(build::unplanned)?;
+    let plan = build::plan(heap, &build::pile(rt, &options)?, options.walk_plan())?;
     println!(rt;
         "A number chooses an action, and the next one tells its outcome. Totals count 256ths of a reward."
     )?;
@@ -31,7 +28,7 @@ fn walk<R: Print + AllocGlobal>(
     plan: &Plan,
     numbers: impl BufRead + Drop,
 ) -> anyhow::Result<()> {
-    let mut walker = Walker::open(&plan.planned.book);
+    let mut walker = Walker::open(plan.book());
     stands(rt, plan, &walker, "The walk is opened.")?;
     for line in numbers.lines(rt.alloc()) {
         walker = answer(rt, plan, walker, line?.as_str())?;
@@ -46,7 +43,7 @@ fn answer(rt: &impl Print, plan: &Plan, walker: Walker, line: &str) -> anyhow::R
         return Ok(walker);
     };
     let told = walker.is_choosing();
-    let Turned { refusal, walker } = walker.turn(&plan.planned.book, number);
+    let Turned { refusal, walker } = walker.turn(plan.book(), number);
     stands(
         rt,
         plan,
@@ -67,23 +64,14 @@ fn stands(
     walker: &Walker,
     happened: impl Display + Drop,
 ) -> anyhow::Result<()> {
-    let seen = Seen(walker.sight(&plan.planned.book));
-    let advice = Advice { plan, walker };
+    let seen = Seen(walker.sight(plan.book()));
+    let advice = Advised(plan.advice(walker));
     println!(rt; "{happened} {seen} {advice}")?;
     Ok(())
 }
 
 // Ends the walk where it can end.
 fn close(rt: &impl Print, plan: &Plan, walker: Walker) -> anyhow::Result<()> {
-    match walker.end(&plan.planned.book) {
-        Ok(sight) => {
-            let slot = sight.slot;
-            let total = sight.total;
-            println!(rt; "The walk is closed in slot {slot}, with a total of {total}.")?;
-        }
-        Err(_) => println!(rt;
-            "The walk is not closed: an outcome of the open choice was not told."
-        )?,
-    }
+    println!(rt; "{}", Closed(walker.end(plan.book()).ok()))?;
     Ok(())
 }
