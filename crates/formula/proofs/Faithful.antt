@@ -1,11 +1,12 @@
 -- Merging keeps the formulas: each once, in the order in which they first come, and each word's number is that of its formula.
 use Rattle.std.proofs.Common.{◌≡◌, ℕ, suc, ◌+◌, ◌<◌, ◌≤◌, true, List, [], ◌∷◌, ◌++◌, length, get_or, sym, refl, ap, ◌∙◌, subst, ⊎_elim, arith, rules}
-use Rattle.std.specs.List.{ContainsAt as Has}
 use Rattle.std.proofs.ByRecursion.{has_get_or}
 use Rattle.std.proofs.lemmas.List.{append_assoc, length_push, get_or_append_left, get_or_push}
 use Rattle.std.proofs.lemmas.Bool.{and_parts, ltb-true, lt-ltb, cases_lt}
-use Rattle.register.specs.Keys.{Decides, Kept, place_of, enter}
-use Rattle.register.proofs.Keys.{place_of_at, place_of_before, enter_both}
+use Rattle.register.specs.Keys.{Identical, Kept, place_of, enter}
+use Rattle.register.proofs.Identity.{IsIdentity, place_of_at, place_of_before}
+use Rattle.register.proofs.Keys.{enter_both}
+use Rattle.register.proofs.Sameness.{identical_sameness}
 use Rattle.register.proofs.Steps.{kept_none, kept_there, kept_new}
 use Rattle.formula.specs.declared.Node.{Node}
 use Rattle.formula.specs.declared.Node.TheVariants.{Label, True, Not, And, Or, Previous, Since, Always, Once}
@@ -14,8 +15,8 @@ use Rattle.formula.specs.Merging.{same_node, renumbered, SoFar, merge_one, merge
 use Rattle.formula.proofs.Trees.{formulas-push, length-formulas, formulas_at, operands_below_more, earlier_at, earlier-push}
 use Rattle.formula.proofs.Apart.{tree_of_apart}
 
-pub same_node_decides : Decides same_node
-same_node_decides = search rules
+pub same_node_identity : IsIdentity same_node
+same_node_identity = search rules
 
 renumbered_below : (ks : List ℕ) (k m : ℕ) (w : Node) → operands_below k w ≡ true → ((i : ℕ) → i < k → get_or ks i 0 < m) → operands_below m (renumbered ks w) ≡ true
 renumbered_below ks k m (Label p) h low = refl
@@ -101,8 +102,8 @@ module _ (came held : List Node) (numbers : List ℕ) (w : Node) (sound : Sound 
             (λ i l. sound.same i l ∙ sym (front_tree came w i l)) (tree ∙ sym (last_tree came w)) i (omega (arith, length_push came w));
         kept =
             subst (λ ts. Kept ts (formulas held)) (sym (formulas-push came w))
-            (kept_there (tree_of (formulas came) w) (formulas came) (formulas held) sound.kept
-            (subst (Has (formulas held)) tree (has_get_or (formulas held) p truth in')));
+            (kept_there Identical identical_sameness (tree_of (formulas came) w) (formulas came) (formulas held) sound.kept
+            (get_or (formulas held) p truth, has_get_or (formulas held) p truth in', sym tree));
       }
 
   sound_new : ((p : ℕ) → p < length held → get_or held p True ≡ renumbered numbers w → ⊥) → Sound (came ++ (w ∷ [])) (held ++ (renumbered numbers w ∷ [])) (numbers ++ (length held ∷ []))
@@ -125,18 +126,18 @@ module _ (came held : List Node) (numbers : List ℕ) (w : Node) (sound : Sound 
         kept =
             subst (λ ts. Kept ts (formulas (held ++ (n ∷ [])))) (sym (formulas-push came w))
             (subst (Kept (formulas came ++ (tree_of (formulas came) w ∷ []))) (sym trees)
-            (kept_new (tree_of (formulas came) w) (formulas came) (formulas held) sound.kept
-            (λ had. let in' : had.0 < length held = omega (arith, had.1, length-formulas held) in new had.0 in' (only_node had.0 in' (had.2 truth)))));
+            (kept_new Identical identical_sameness (tree_of (formulas came) w) (formulas came) (formulas held) sound.kept
+            (λ t had same. let in' : had.0 < length held = omega (arith, had.1, length-formulas held) in new had.0 in' (only_node had.0 in' (had.2 truth ∙ same)))));
       }
 
   sound_more : Sound (came ++ (w ∷ [])) (enter same_node (renumbered numbers w) held) (numbers ++ (place_of same_node (renumbered numbers w) held ∷ []))
   sound_more =
       let n = renumbered numbers w in
       enter_both same_node n held (λ h. Sound (came ++ (w ∷ [])) h (numbers ++ (place_of same_node n held ∷ [])))
-      (λ l. sound_there (place_of same_node n held) l (place_of_at same_node same_node_decides n held True l))
+      (λ l. sound_there (place_of same_node n held) l (place_of_at same_node same_node_identity n held True l))
       (λ e.
       subst (λ (p : ℕ). Sound (came ++ (w ∷ [])) (held ++ (n ∷ [])) (numbers ++ (p ∷ []))) (sym e)
-      (sound_new (λ p l at. place_of_before same_node same_node_decides n held p True (omega arith) at)))
+      (sound_new (λ p l at. place_of_before same_node same_node_identity n held p True (omega arith) at)))
 
 sound_all : (came ws : List Node) (m : SoFar) → Sound came m.held m.numbers → earlier_from (length came) ws ≡ true → Sound (came ++ ws) (merge_from m ws).held (merge_from m ws).numbers
 sound_all came [] m sound h = search rules
@@ -155,7 +156,7 @@ faithful ws h =
       early = refl;
       range = λ i l. absurd (omega arith);
       same = λ i l. absurd (omega arith);
-      kept = kept_none;
+      kept = kept_none Identical;
     } in
     let sound = sound_all [] ws (record { held = []; numbers = [] }) none h in
     record {

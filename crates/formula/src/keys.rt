@@ -9,7 +9,7 @@ use register::Key;
 impl Key for Node {
     ghost bucket = { λ node. first_of node + 256 * second_of node };
 
-    ghost decides = { Prim.search rules };
+    ghost shares_bucket = { Prim.search rules };
 
     fn bucket(&self) -> usize {
         match *self {

@@ -1,8 +1,10 @@
 -- The bits of a memory and of a mask, one by one.
-use Rattle.std.proofs.Common.{◌≡◌, ℕ, zero, suc, ◌+◌, ◌*◌, ◌/◌, ◌%◌, ◌^◌, ◌<◌, Bool, true, false, eqb, List, [], ◌∷◌, length, get_or, sym, ap, ◌∙◌, subst, mul_comm, add_comm, arith}
+use Rattle.std.proofs.Common.{◌≡◌, ℕ, zero, suc, ◌+◌, ◌*◌, ◌/◌, ◌%◌, ◌^◌, ◌<◌, Bool, true, false, eqb, List, [], ◌∷◌, length, get_or, sym, ap, ◌∙◌, subst, pow-suc, mul_comm, add_comm, arith}
 use native.Mathlib.Nat.{zero-div}
 use Rattle.std.specs.List.{ContainsAt as Has}
 use Rattle.std.proofs.lemmas.Nat.{shr-shr, shr_high}
+use Rattle.std.proofs.lemmas.Nat.Bits.{bit_at-suc, bit_at_lowest}
+use Rattle.std.specs.Int.{bit_at}
 use Rattle.std.proofs.ByRecursion.{has_get_or}
 use Rattle.std.proofs.lemmas.List.{get_or-map}
 use Rattle.std.proofs.lemmas.Bool.{eq-eqb, and_parts, ltb-true}
@@ -16,7 +18,7 @@ use Rattle.wishlayout.specs.Wishes.{good_wish}
 use Rattle.layer.specs.Judging.{bit, bits_of, item_held, wish_held, bits_of_wishes}
 use Rattle.layer.proofs.Recalling.{high_bits}
 use Rattle.layer.proofs.Verdicts.{item_told}
-use Rattle.layer.specs.Records.{trace_of, end_of, truths, MemoryTells, WishesShow}
+use Rattle.layer.specs.Records.{trace_of, end_of, truths, MemoryTells, WishesShow, LabelsStay}
 
 low : (b : Bool) (m : ℕ) → labelled (bit b + 2 * m) 0 ≡ b
 low true m = eq-eqb ((1 + 2 * m) / 1 % 2) 1 (omega arith)
@@ -59,3 +61,18 @@ wishes_show b ok labels mask h k d small l =
     above labels (mask h) (bits_of_wishes b.wishes (truths b.nodes (trace_of mask h) (end_of h))) k small
     ∙ bits_bit (wish_held (truths b.nodes (trace_of mask h) (end_of h))) b.wishes k d l
     ∙ get_or-map (λ f. holds f (trace_of mask h) (end_of h)) (formulas b.nodes) (get_or b.wishes k d).node truth false (omega (arith, length-formulas b.nodes))
+
+-- bits below a power of two don't depend on its multiples
+low_bits : (q labels low_part high : ℕ) → q < labels → bit_at (low_part + 2 ^ labels * high) q ≡ bit_at low_part q
+low_bits q zero low_part high l = absurd (omega arith)
+low_bits zero (suc labels) low_part high l =
+    let even : 2 ^ suc labels * high ≡ 2 * (2 ^ labels * high) = ap (λ p. p * high) (pow-suc 2 labels) ∙ omega arith in
+    let same : (low_part + 2 ^ suc labels * high) % 2 ≡ low_part % 2 = omega (arith, even) in
+    bit_at_lowest (low_part + 2 ^ suc labels * high) ∙ same ∙ sym (bit_at_lowest low_part)
+low_bits (suc q) (suc labels) low_part high l =
+    let even : 2 ^ suc labels * high ≡ 2 * (2 ^ labels * high) = ap (λ p. p * high) (pow-suc 2 labels) ∙ omega arith in
+    let half : (low_part + 2 ^ suc labels * high) / 2 ≡ low_part / 2 + 2 ^ labels * high = omega (arith, even) in
+    bit_at-suc (low_part + 2 ^ suc labels * high) q ∙ ap (λ n. bit_at n q) half ∙ low_bits q labels (low_part / 2) high (omega arith) ∙ sym (bit_at-suc low_part q)
+
+pub labels_stay : LabelsStay
+labels_stay b labels mask h q l = ap (λ n. eqb n 1) (low_bits q labels (mask h) (bits_of_wishes b.wishes (truths b.nodes (trace_of mask h) (end_of h))) l)

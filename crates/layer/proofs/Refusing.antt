@@ -18,7 +18,7 @@ tests true true false = refl
 tests true false z = refl
 tests false y z = refl
 
-fit_is : (m : Model) (b : Book) (o : Option Refusal) → o ≡ refusal m b → fits m b ≡ not (is_some o)
+pub fit_is : (m : Model) (b : Book) (o : Option Refusal) → o ≡ refusal m b → fits m b ≡ not (is_some o)
 fit_is m b o e = tests (has_labels m b) (bound_fits m b) (span_fits m) ∙ ap (λ r. not (is_some r)) (sym e)
 
 -- a layer x of the book w on y, if it was made: `own` is the book, and o the layer, if there is one

@@ -56,3 +56,7 @@ abbrev pub WishesShow : Type 0
 WishesShow =
     (b : Book) → SoundBook b → (labels : ℕ) (mask : List ℕ → ℕ) (h : List ℕ) (k : ℕ) (d : Wish) → mask h < 2 ^ labels → k < length b.wishes
     → labelled (mask_over labels mask b h) (labels + k) ≡ holds (slice_index_or (formulas b.nodes) (get_or b.wishes k d).node truth) (trace_of mask h) (end_of h)
+
+-- the labels below keep their bits
+abbrev pub LabelsStay : Type 0
+LabelsStay = (b : Book) (labels : ℕ) (mask : List ℕ → ℕ) (h : List ℕ) (q : ℕ) → q < labels → labelled (mask_over labels mask b h) q ≡ labelled (mask h) q

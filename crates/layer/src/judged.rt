@@ -1,6 +1,5 @@
 // A wish book in a state: the label mask there, the truth of each of its nodes, and what the state comes to.
-// It is one book in one state. `judge`, `remember` and `wish_bits`, which it hands on to, answer for truths of any length, and
-// layertests follows records by them.
+// It is one book in one state. `judge`, `remember` and `wish_bits`, which it hands on to, answer for truths of any length.
 ghost use Rattle.std.specs.Prelude.{◌≡◌, length};
 
 use crate::counts::{remember, wish_bits};

@@ -11,6 +11,13 @@ use model::{Outcomes, SiteModel, Sizes};
 use refusal::Refusal;
 use wishbook::WishBook;
 
+// Why a book cannot be laid on a model, none where it can.
+pub fn refusal_on<M: SiteModel>(below: &M, book: &WishBook) -> Option<Refusal>
+    ensures { result ≡ refusal_of (M.SiteModel.meaning below.now) (contents book.now) }
+{
+    Over::new(below, book).err()
+}
+
 #[derive(Drop)]
 pub struct Layer<M> {
     below: M,

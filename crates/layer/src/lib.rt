@@ -13,4 +13,4 @@ mod recalled;
 
 pub use counts::{remember, wish_bits};
 pub use judging::judge;
-pub use layers::Layer;
+pub use layers::{Layer, refusal_on};

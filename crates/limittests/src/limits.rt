@@ -1,7 +1,7 @@
 // The limits of walks, of wish books and of piles.
 use crossing::{site_words, wish_words};
 use layer::Layer;
-use pile::{Footing, stack};
+use pile::{Footing, Unlaid, lay_all, lay_each, stack};
 use refusal::{Refusal, Unread};
 use sitebook::{SiteBook, read_site};
 use std::alloc::Global;
@@ -102,5 +102,52 @@ fn three_layers(rt: HostRuntime) -> Result<(), Fail> {
     assert_eq!(rt; pile.refusal(), None);
     let fourth = Layer::new(pile, Some(book));
     assert_eq!(rt; fourth.refusal(), Some(Refusal::SpanPassed));
+    Ok(())
+}
+
+// Of four books the fourth is refused, and all at once or each in turn makes no difference.
+#[test]
+fn four_books(rt: HostRuntime) -> Result<(), Fail> {
+    let heap = rt.alloc();
+    let book = wish(heap, &wish_words())?;
+    let four = [book, book, book, book];
+    assert_eq!(rt; lay_all(site(heap, &site_words())?, &four[..3]).err(), None);
+    assert_eq!(rt;
+        lay_all(site(heap, &site_words())?, &four).err(),
+        Some(Unlaid {
+            floor: 3,
+            refusal: Refusal::SpanPassed
+        })
+    );
+    let built = lay_each(heap, site(heap, &site_words())?, &four)?;
+    assert_eq!(rt;
+        built.refusals.as_slice(),
+        [None, None, None, Some(Refusal::SpanPassed)].as_slice()
+    );
+    assert_eq!(rt; built.pile.refusal(), None);
+    Ok(())
+}
+
+// The first book that is refused is told, also where a later one is refused for what is tested before.
+#[test]
+fn second_of_three(rt: HostRuntime) -> Result<(), Fail> {
+    let heap = rt.alloc();
+    let books = [
+        wish(heap, &WORTH_10)?,
+        wish(heap, &WORTH_10)?,
+        wish(heap, &wish_words())?,
+    ];
+    assert_eq!(rt;
+        lay_all(site(heap, &WAITING)?, &books).err(),
+        Some(Unlaid {
+            floor: 1,
+            refusal: Refusal::BoundPassed
+        })
+    );
+    let built = lay_each(heap, site(heap, &WAITING)?, &books)?;
+    assert_eq!(rt;
+        built.refusals.as_slice(),
+        [None, Some(Refusal::BoundPassed), Some(Refusal::NoSuchLabel)].as_slice()
+    );
     Ok(())
 }

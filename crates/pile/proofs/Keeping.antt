@@ -31,7 +31,7 @@ ground_unfolds g law ground = record {
 }
 
 -- a sound book on a model that unfolds the ground model
-sound_unfolds : (g m : Model) (sh : Shown) → Unfolds g m sh.code sh.mask sh.reward → (b : Book) → SoundBook b
+pub sound_unfolds : (g m : Model) (sh : Shown) → Unfolds g m sh.code sh.mask sh.reward → (b : Book) → SoundBook b
     → Unfolds g (layered m b) (code_over sh.code sh.mask b) (mask_over m.labels sh.mask b) (reward_over sh.mask sh.reward b)
 sound_unfolds g m sh u b ok =
     let parts = and_parts (earlier b.nodes) (all (good_wish (length b.nodes)) b.wishes) ok.names in

@@ -1,1 +1,4 @@
 pub mod Keeping
+pub mod Stacking
+pub mod Turns
+pub mod Telling

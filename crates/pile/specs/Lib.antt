@@ -1,2 +1,5 @@
 pub mod Piles
 pub mod Pushing
+pub mod Stacks
+pub mod Skipping
+pub mod Telling

@@ -4,6 +4,7 @@ ghost use Rattle.std.specs.Option.{option_map};
 ghost use Rattle.wishbook.specs.Contents.{contents};
 ghost use Rattle.layer.specs.Laying.{meaning_of};
 ghost use Rattle.pile.specs.Piles.{piled};
+ghost use Rattle.pile.specs.Stacks.{ground_of, books_of};
 
 use crate::footing::Footing;
 use layer::Layer;
@@ -20,7 +21,9 @@ pub fn stack<G: GroundModel>(
     second: Option<WishBook>,
     third: Option<WishBook>,
 ) -> Three<G>
-    ensures { meaning_of (meaning_of (meaning_of (λ f. G.SiteModel.meaning f.bottom))) result ≡ piled (G.SiteModel.meaning bottom) (option_map contents first ∷ (option_map contents second ∷ (option_map contents third ∷ []))) }
+    ensures bottom { ground_of result ≡ bottom }
+    ensures books { books_of result ≡ first ∷ (second ∷ (third ∷ [])) }
+    ensures meaning { meaning_of (meaning_of (meaning_of (λ f. G.SiteModel.meaning f.bottom))) result ≡ piled (G.SiteModel.meaning bottom) (option_map contents first ∷ (option_map contents second ∷ (option_map contents third ∷ []))) }
 {
     let one = Layer::new(Footing::new(bottom), first);
     let two = Layer::new(one, second);

@@ -27,14 +27,18 @@ pub record Filled {X : Type 0} (f : ℕ → X) (n : ℕ) (before after : List X)
   pub size : length after ≡ length before
   pub later : drop n after ≡ drop n before
 
--- the tables hold all places of the plan
-abbrev pub tables_hold : Model → ℕ → ℕ → ℕ → Bool
-tables_hold m horizon worths choices = nat_le ((horizon + 1) * m.span) worths && nat_le (horizon * m.span) choices
+-- tables of so many worths and choices hold all places of a plan for so many states
+abbrev pub tables_hold : ℕ → ℕ → ℕ → ℕ → Bool
+tables_hold states horizon worths choices = nat_le ((horizon + 1) * states) worths && nat_le (horizon * states) choices
+
+-- from the sizes alone: this value, or a refusal
+abbrev pub unless_refused : {V : Type 0} → V → ℕ → ℕ → ℕ → ℕ → Result V Refusal
+unless_refused v states horizon worths choices =
+    cond (nat_le horizon 12) (cond (tables_hold states horizon worths choices) (Ok v) (Err PlanTableShort)) (Err HorizonTooLong)
 
 -- for tables of so many worths and choices: the plan's worth, or a refusal
 abbrev pub answer_of : Weigh → Model → ℕ → ℕ → ℕ → Result ℤ Refusal
-answer_of w m horizon worths choices =
-    cond (nat_le horizon 12) (cond (tables_hold m horizon worths choices) (Ok (worth_of w discount_of m horizon horizon m.start)) (Err PlanTableShort)) (Err HorizonTooLong)
+answer_of w m horizon worths choices = unless_refused (worth_of w discount_of m horizon horizon m.start) m.span horizon worths choices
 
 -- what is left in the tables: a refusal leaves them untouched
 abbrev pub Left : {V E X : Type 0} → Result V E → (ℕ → X) → ℕ → List X → List X → Type 0

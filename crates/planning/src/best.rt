@@ -2,22 +2,12 @@
 ghost use Rattle.std.specs.Prelude.{◌≡◌, pos, slice_index_or};
 ghost use Rattle.bounded.specs.Listed.{listed as ways};
 ghost use Rattle.weighing.specs.Weighings.{Within};
-ghost use Rattle.worth.specs.Worths.{better, joined, pick_at};
+ghost use Rattle.worth.specs.Worths.{joined, pick_at};
 
 use crate::planner::Planner;
 use model::{Numbered, Outcome, Outcomes};
 use weighing::Weighing;
-use worth::Pick;
-
-// One action more: it is taken only where its value is larger.
-fn better(best: Option<Pick>, next: Pick) -> Option<Pick>
-    ensures { result ≡ better best next.action next.value }
-{
-    match best {
-        Some(pick) if pick.value >= next.value => best,
-        _ => Some(next),
-    }
-}
+use worth::{Pick, better};
 
 impl<M: Numbered, W: Weighing> Planner<'_, M, W> {
     // One outcome more; what `below` has no place for counts 0.

@@ -6,6 +6,8 @@ mod best;
 mod fill;
 mod own;
 mod planner;
+mod sizes;
 mod tables;
 
+pub use sizes::check_sizes;
 pub use tables::plan;

@@ -1,8 +1,10 @@
 // The plan of a model, in two lent tables.
-ghost use Rattle.std.specs.Prelude.{◌≡◌, ◌+◌, ◌*◌, length};
+ghost use Rattle.std.specs.Prelude.{◌≡◌, ◌+◌, ◌*◌, length, OnOk};
+ghost use Rattle.planning.specs.Choices.{ChoosesLowest, NothingHeld};
 ghost use Rattle.planning.specs.Plans.{answer_of, choice_at, Left, NobodyBetter, worth_at};
 
-use crate::planner::{Planner, SLOTS};
+use crate::planner::Planner;
+use crate::sizes::check_sizes;
 use model::Numbered;
 use refusal::Refusal;
 use weighing::Weighing;
@@ -20,14 +22,13 @@ pub fn plan<M: Numbered, W: Weighing>(
     ensures worths { Left result (worth_at (W.meaning weighing.now) (M.SiteModel.meaning model.now) horizon) ((horizon + 1) * (M.SiteModel.meaning model.now).span) worths.old worths.new }
     ensures choices { Left result (choice_at (W.meaning weighing.now) (M.SiteModel.meaning model.now) horizon) (horizon * (M.SiteModel.meaning model.now).span) choices.old choices.new }
     ensures nobody { NobodyBetter (W.meaning weighing.now) (M.SiteModel.meaning model.now) horizon choices.new result }
+    ensures chooses { OnOk result (ChoosesLowest (W.meaning weighing.now) (M.SiteModel.meaning model.now)
+        horizon worths.new choices.new) }
+    ensures free { OnOk result (NothingHeld (W.meaning weighing.now) (M.SiteModel.meaning model.now)
+        horizon worths.new) }
 {
-    if horizon > SLOTS {
-        return Err(Refusal::HorizonTooLong);
-    }
     let states = model.count();
-    if worths.len() < (horizon + 1) * states || choices.len() < horizon * states {
-        return Err(Refusal::PlanTableShort);
-    }
+    check_sizes(states, horizon, worths.len(), choices.len())?;
     let planner = Planner {
         model,
         weighing,

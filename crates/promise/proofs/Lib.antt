@@ -2,3 +2,6 @@ pub mod Corresponding
 pub mod Rereading
 pub mod Earning
 pub mod Agreeing
+mod Preparing
+mod Whole
+mod Advised

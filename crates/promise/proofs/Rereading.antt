@@ -17,6 +17,7 @@ use Rattle.writeout.specs.Tables.{Faithfully, Writable, outcome, out_book, too_m
 
 pub record Wrote (m : Model) (space : ℕ) (w : Written) : Type 0 where
   pub few : Writable m
+  pub states : w.states ≡ length (codes_of m)
   pub words : w.words ≡ word_count m
   pub room : 4 * word_count m ≤ space
 
@@ -39,6 +40,7 @@ wrote m places space w e =
     let same : whole ≡ w = cc in
     record {
       few = omega (arith, ltb-false (min places 4096) (length (codes_of m)) f);
+      states = sym (ap (λ (v : Written). v.states) same);
       words = sym (ap (λ (v : Written). v.words) same);
       room = ltb-false space (4 * word_count m) fits;
     })

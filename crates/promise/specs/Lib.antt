@@ -1,4 +1,5 @@
 pub mod Corresponding
 pub mod Causes
 pub mod Planning
+pub mod WholePlan
 pub mod Walking

@@ -1,15 +1,15 @@
 -- Planning on the book that is written out of a pile: what is answered, what the tables hold after, and that the choices, taken as a
 -- policy over histories of the ground model, earn exactly the worth, while no policy that chooses from the whole history earns more.
-use Rattle.std.specs.Prelude.{◌≡◌, ℕ, ◌+◌, ◌*◌, List, length, ℤ, ◌≤ℤ◌, Ok, Err, Result}
+use Rattle.std.specs.Prelude.{◌≡◌, ⊤, ℕ, ◌+◌, ◌*◌, List, length, ℤ, ◌≤ℤ◌, Ok, Err, Result}
 use Rattle.model.specs.Models.{Model}
 use Rattle.pile.specs.Piles.{Floor, shown_on}
-use Rattle.planning.specs.Plans.{answer_of, worth_at, choice_at, Left, tabled}
+use Rattle.planning.specs.Plans.{answer_of, worth_at, choice_at, Left, tabled, unless_refused}
 use Rattle.promise.specs.Corresponding.{book_model, place_in}
-use Rattle.promise.specs.declared.plans.Planned.{Planned}
-use Rattle.promise.specs.declared.plans.ReadBack.{ReadBack}
+use Rattle.promise.specs.declared.causes.Unplanned.{Unplanned}
+use Rattle.promise.specs.declared.causes.Unplanned.TheVariants.{Refused, Memory}
+use Rattle.promise.specs.declared.plans.Plan.{Plan}
 use Rattle.promise.specs.declared.plans.Tables.{Tables}
-use Rattle.promise.specs.declared.plans.Unplanned.{Unplanned}
-use Rattle.promise.specs.declared.plans.Unplanned.TheVariants.{Refused, Memory}
+use Rattle.promise.specs.declared.plans.making.Ready.{Ready}
 use Rattle.reach.specs.Search.{codes_of}
 use Rattle.refusal.specs.declared.Refusal.{Refusal}
 use Rattle.sitebook.specs.Contents.{contents}
@@ -30,24 +30,29 @@ abbrev pub planned_in : Weigh → Model → ℕ → Tables → Result ℤ Refusa
 planned_in w m horizon t = answer_of w (book_model m) horizon (length t.worths.now) (length t.choices.now)
 
 -- the refusal of writing out comes first, then that of planning
-abbrev pub after_writing : Result Written Refusal → Result ℤ Refusal → Result ℤ Refusal
+abbrev pub after_writing : {V : Type 0} → Result Written Refusal → Result V Refusal → Result V Refusal
 after_writing (Ok w) answer = answer
 after_writing (Err r) answer = Err r
 
--- the book that was written reads back; memory may run out where it is written
-abbrev pub ReadsBack : Model → ℕ → ℕ → Result ReadBack Unplanned → Type 0
-ReadsBack m places space (Ok p) = (outcome m places space ≡ Ok p.written) × (contents p.book.book ≡ out_book m)
-ReadsBack m places space (Err (Refused r)) = outcome m places space ≡ Err r
-ReadsBack m places space (Err (Memory e)) = (p : Written) × (outcome m places space ≡ Ok p)
+-- what is refused before anything is allocated, by the lengths of the four tables: by writing out, and then by the plan's sizes
+abbrev pub unless_unready : Model → ℕ → ℕ → ℕ → ℕ → ℕ → Result ⊤ Refusal
+unless_unready m horizon places space worths choices = after_writing (outcome m places space) (unless_refused (tt {0}) (book_model m).span horizon worths choices)
 
--- memory may run out where the book is written, and is read back
-abbrev pub PlansAs : Weigh → Model → ℕ → Tables → Result Planned Unplanned → Type 0
+-- the book of a pile as it reads back, and room for the plan's choices; or what is refused; or memory runs out where nothing is
+abbrev pub ReadyAs : Model → ℕ → ℕ → ℕ → ℕ → ℕ → Result Ready Unplanned → Type 0
+ReadyAs m horizon places space worths choices (Ok p) =
+    (outcome m places space ≡ Ok p.written) × (contents p.book.book ≡ out_book m) × (unless_refused (tt {0}) (book_model m).span horizon worths choices ≡ Ok (tt {0}))
+ReadyAs m horizon places space worths choices (Err (Refused r)) = unless_unready m horizon places space worths choices ≡ Err r
+ReadyAs m horizon places space worths choices (Err (Memory e)) = unless_unready m horizon places space worths choices ≡ Ok (tt {0})
+
+-- a refusal is that of writing out or of planning; memory may run out only where neither refuses
+abbrev pub PlansAs : Weigh → Model → ℕ → Tables → Result Plan Unplanned → Type 0
 PlansAs w m horizon t (Ok p) = (written_in m t ≡ Ok p.written) × (contents p.book.book ≡ out_book m) × (planned_in w m horizon t ≡ Ok p.worth)
 PlansAs w m horizon t (Err (Refused r)) = after_writing (written_in m t) (planned_in w m horizon t) ≡ Err r
-PlansAs w m horizon t (Err (Memory e)) = (p : Written) × (written_in m t ≡ Ok p)
+PlansAs w m horizon t (Err (Memory e)) = (worth : ℤ) × (after_writing (written_in m t) (planned_in w m horizon t) ≡ Ok worth)
 
 -- the codes and the book, or all 0 where they are refused; the plan, or what was there before
-pub record TablesLeft (w : Weigh) (m : Model) (horizon : ℕ) (result : Result Planned Unplanned) (before after : Tables) : Type 0 where
+pub record TablesLeft (w : Weigh) (m : Model) (horizon : ℕ) (result : Result Plan Unplanned) (before after : Tables) : Type 0 where
   pub codes : after.codes.now ≡ left (written_in m before) (length before.codes.now) (codes_of m)
   pub bytes : after.bytes.now ≡ left (written_in m before) (length before.bytes.now) (file (site_words (out_book m)))
   pub worths : Left result (worth_at w (book_model m) horizon) ((horizon + 1) * (book_model m).span) before.worths.now after.worths.now
@@ -70,12 +75,12 @@ abbrev pub earned_on : Weigh → Model → List Floor → ℕ → Policy → ℤ
 earned_on w g fs horizon π = earns w discount_of g (shown_on g fs).reward horizon π
 
 -- the plan names offered actions alone, and earns exactly its worth
-abbrev pub PlanEarns : Weigh → Model → List Floor → Model → ℕ → Tables → Result Planned Unplanned → Type 0
+abbrev pub PlanEarns : Weigh → Model → List Floor → Model → ℕ → Tables → Result Plan Unplanned → Type 0
 PlanEarns w g fs m horizon t (Ok p) = Admissible g horizon (plan_policy g fs m horizon t) × (earned_on w g fs horizon (plan_policy g fs m horizon t) ≡ p.worth)
 PlanEarns w g fs m horizon t (Err e) = Unit {0}
 
 -- no policy that chooses from the whole history earns more
-abbrev pub NobodyEarnsMore : Weigh → Model → List Floor → ℕ → Result Planned Unplanned → Type 0
+abbrev pub NobodyEarnsMore : Weigh → Model → List Floor → ℕ → Result Plan Unplanned → Type 0
 NobodyEarnsMore w g fs horizon (Ok p) = (π : Policy) → Admissible g horizon π → earned_on w g fs horizon π ≤ℤ p.worth
 NobodyEarnsMore w g fs horizon (Err e) = Unit {0}
 

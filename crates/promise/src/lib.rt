@@ -2,10 +2,14 @@
 
 #![tactic(auto)]
 
+mod advising;
+mod causes;
 mod plans;
 mod walks;
 mod writing;
 
-pub use plans::{Planned, Tables, Unplanned, plan_pile};
-pub use walks::{Walks, plan_and_walk};
+pub use advising::Advice;
+pub use causes::Unplanned;
+pub use plans::{Plan, Tables, plan_pile};
+pub use walks::{Journey, Walks, plan_and_walk};
 pub use writing::write_pile;

@@ -1,13 +1,17 @@
 // The whole promise.
-ghost use Rattle.promise.specs.Corresponding.{Corresponds};
+ghost use Rattle.std.specs.Prelude.{IfOk, OnOk};
+ghost use Rattle.planning.specs.Choices.{ChoosesLowest, NothingHeld};
+ghost use Rattle.promise.specs.Corresponding.{book_model, Corresponds};
 ghost use Rattle.promise.specs.Planning.{BestInBook, NobodyEarnsMore, PlanEarns, PlansAs, TablesLeft, TablesStay};
-ghost use Rattle.promise.specs.Walking.{AgreeInBook, AgreeOnPile, StepsLeft, WalksStay};
+ghost use Rattle.promise.specs.Walking.{AgreeInBook, AgreeOnPile, CourseInBook, CourseTold, StandsInBook, StandsOnPile, StepsInBook, StepsTold, WalkedInBook, WalksStay};
+ghost use Rattle.promise.specs.WholePlan.{IsPlanOf};
 ghost use Rattle.writeout.specs.Tables.{Faithfully};
 
-use crate::plans::{Planned, Tables, Unplanned, plan_pile};
+use crate::causes::Unplanned;
+use crate::plans::{Plan, Tables, plan_pile};
 use pile::Pile;
 use std::alloc::Global;
-use walk::{Step, replay};
+use walk::{Course, Step, replay};
 use weighing::Weighing;
 
 // The tables that two walks are told in: on the pile, and in its book.
@@ -17,8 +21,30 @@ pub struct Walks<'a> {
     pub in_book: &'a mut [Step],
 }
 
+// What came of a pile: the plan, or why there is none; the walk on the pile; and the walk in the book where there is a plan.
+#[derive(Drop)]
+pub struct Journey {
+    pub plan: Result<Plan, Unplanned>,
+    pub on_pile: Course,
+    pub in_book: Option<Course>,
+}
+
+// Walks on the book of a plan, where there is one.
+fn walk_in_book(
+    plan: &Result<Plan, Unplanned>,
+    numbers: &[u32],
+    steps: &mut [Step],
+) -> Option<Course>
+    ensures { WalkedInBook numbers.now plan.now steps.old steps.new result }
+{
+    match plan {
+        Ok(plan) => Some(replay(plan.book(), numbers, steps)),
+        Err(_) => None,
+    }
+}
+
 // Plans on the book that is written out of the pile, and walks through the numbers, each a choice where none is open and else a told
-// outcome: once on the pile, and once on the book.
+// outcome: once on the pile, and once on the book. Both walks are closed at the end, where no outcome is missing.
 // For every lawful ground model and every pile on it, walker and reckoner agree on the pile (`agrees_on_pile`) and on its book
 // (`agrees_in_book`), the plan earns exactly its worth (`earns`), and no policy that knows the whole history earns more (`nobody`).
 pub fn plan_and_walk<P: Pile, W: Weighing>(
@@ -29,22 +55,33 @@ pub fn plan_and_walk<P: Pile, W: Weighing>(
     numbers: &[u32],
     tables: &mut Tables,
     walks: &mut Walks,
-) -> Result<Planned, Unplanned>
-    ensures answer { PlansAs (W.meaning weighing.now) (P.SiteModel.meaning pile.now) horizon tables.old result }
-    ensures tables { TablesLeft (W.meaning weighing.now) (P.SiteModel.meaning pile.now) horizon result tables.old tables.new }
-    ensures on_pile { StepsLeft (P.Pile.base pile.now) (P.Pile.floors pile.now) numbers.now result walks.old.on_pile.now walks.new.on_pile.now }
-    ensures in_book { StepsLeft (P.Pile.base pile.now) (P.Pile.floors pile.now) numbers.now result walks.old.in_book.now walks.new.in_book.now }
+) -> Journey
+    ensures answer { PlansAs (W.meaning weighing.now) (P.SiteModel.meaning pile.now) horizon tables.old result.plan }
+    ensures tables { TablesLeft (W.meaning weighing.now) (P.SiteModel.meaning pile.now) horizon result.plan tables.old tables.new }
+    ensures on_pile { StepsTold (P.Pile.base pile.now) (P.Pile.floors pile.now) numbers.now walks.old.on_pile.now walks.new.on_pile.now }
+    ensures in_book { StepsInBook (P.Pile.base pile.now) (P.Pile.floors pile.now) numbers.now result.plan walks.old.in_book.now walks.new.in_book.now }
+    ensures course_on_pile { CourseTold (P.Pile.base pile.now) (P.Pile.floors pile.now) numbers.now result.on_pile }
+    ensures course_in_book { CourseInBook (P.Pile.base pile.now) (P.Pile.floors pile.now) numbers.now result.plan result.in_book }
     ensures lent { TablesStay tables.old tables.new × WalksStay walks.old walks.new }
+    ensures plan { IfOk result.plan (IsPlanOf (W.meaning weighing.now) (P.Pile.base pile.now) (P.Pile.floors pile.now) (P.SiteModel.meaning pile.now) horizon) }
+    ensures chooses { OnOk result.plan (ChoosesLowest (W.meaning weighing.now) (book_model (P.SiteModel.meaning pile.now)) horizon tables.new.worths.now tables.new.choices.now) }
+    ensures free { OnOk result.plan (NothingHeld (W.meaning weighing.now) (book_model (P.SiteModel.meaning pile.now)) horizon tables.new.worths.now) }
     ensures faithful { Faithfully (P.SiteModel.meaning pile.now) }
     ensures corresponds { Corresponds (P.Pile.base pile.now) (P.Pile.floors pile.now) (P.SiteModel.meaning pile.now) }
     ensures agrees_on_pile { AgreeOnPile (P.Pile.base pile.now) (P.Pile.floors pile.now) (P.SiteModel.meaning pile.now) }
     ensures agrees_in_book { AgreeInBook (P.Pile.base pile.now) (P.Pile.floors pile.now) (P.SiteModel.meaning pile.now) }
+    ensures stands_on_pile { StandsOnPile (P.Pile.base pile.now) (P.Pile.floors pile.now) (P.SiteModel.meaning pile.now) }
+    ensures stands_in_book { StandsInBook (P.Pile.base pile.now) (P.Pile.floors pile.now) (P.SiteModel.meaning pile.now) }
     ensures best { BestInBook (P.Pile.base pile.now) (P.Pile.floors pile.now) (P.SiteModel.meaning pile.now) }
-    ensures earns { PlanEarns (W.meaning weighing.now) (P.Pile.base pile.now) (P.Pile.floors pile.now) (P.SiteModel.meaning pile.now) horizon tables.new result }
-    ensures nobody { NobodyEarnsMore (W.meaning weighing.now) (P.Pile.base pile.now) (P.Pile.floors pile.now) horizon result }
+    ensures earns { PlanEarns (W.meaning weighing.now) (P.Pile.base pile.now) (P.Pile.floors pile.now) (P.SiteModel.meaning pile.now) horizon tables.new result.plan }
+    ensures nobody { NobodyEarnsMore (W.meaning weighing.now) (P.Pile.base pile.now) (P.Pile.floors pile.now) horizon result.plan }
 {
-    let planned = plan_pile(heap, pile, weighing, horizon, tables)?;
-    replay(pile, numbers, &mut *walks.on_pile);
-    replay(&planned.book, numbers, &mut *walks.in_book);
-    Ok(planned)
+    let on_pile = replay(pile, numbers, &mut *walks.on_pile);
+    let plan = plan_pile(heap, pile, weighing, horizon, tables);
+    let in_book = walk_in_book(&plan, numbers, &mut *walks.in_book);
+    Journey {
+        plan,
+        on_pile,
+        in_book,
+    }
 }

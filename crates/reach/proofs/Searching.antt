@@ -8,6 +8,7 @@ use Rattle.model.specs.Histories.{History, begun, onward, final}
 use Rattle.model.specs.Models.{Model, Lawful}
 use Rattle.model.proofs.Paths.{final-push}
 use Rattle.register.specs.Keys.{Distinct, Kept, enter, enter_all}
+use Rattle.register.proofs.Identity.{kept_has}
 use Rattle.register.proofs.Keys.{enter_both}
 use Rattle.reach.specs.Reached.{Reached, coming_up, Lists, MoreThan}
 use Rattle.reach.specs.Search.{leads_to, listed_after, codes_of}
@@ -42,11 +43,11 @@ listed_distinct m n = (listed_kept m n).once
 
 -- a list that has the start and what its states lead to has all that a history ends in
 closed_has : (m : Model) → Lawful m → (codes : List ℕ) → Kept (m.start ∷ coming_up m codes) codes → (p : List ℕ) → History m p → Has codes (final p)
-closed_has m law codes kept p begun = kept.every m.start (0, omega arith, λ d. refl)
+closed_has m law codes kept p begun = kept_has (m.start ∷ coming_up m codes) codes kept m.start (0, omega arith, λ d. refl)
 closed_has m law codes kept p (onward {h = before} a t hist off has) =
     let leads : Has (leads_to m (final before)) t = has_leads m law (final before) a t off has in
     let up : Has (coming_up m codes) t = has_coming m codes (final before) t (closed_has m law codes kept before hist) leads in
-    subst (Has codes) (sym (final-push before t)) (kept.every t (has_append_right (m.start ∷ []) (coming_up m codes) t up))
+    subst (Has codes) (sym (final-push before t)) (kept_has (m.start ∷ coming_up m codes) codes kept t (has_append_right (m.start ∷ []) (coming_up m codes) t up))
 
 -- a list whose states have all had their turn is the list of the reached states
 pub turned_lists : (m : Model) → Lawful m → (n : ℕ) → length (listed_after m n) ≤ n → Lists m (listed_after m n)

@@ -4,9 +4,9 @@ use Rattle.std.proofs.Common.{◌≡◌, ℕ, zero, suc, ◌+◌, ◌<◌, ◌�
 use Rattle.std.proofs.lemmas.List.{append_assoc, append-nil, get_or-take, take_all, take_more, take-take}
 use Rattle.std.proofs.lemmas.Bool.{cases_lt, cond-true, cond-false, le-ltb, lt-ltb}
 use Rattle.model.specs.Models.{Model}
-use Rattle.register.specs.Keys.{number_decides, Kept, enter_all}
+use Rattle.register.specs.Keys.{Kept, enter_all}
 use Rattle.register.proofs.Keys.{enter_all-append, enter_all-length, enter_all-take}
-use Rattle.register.proofs.Order.{enter_all_kept}
+use Rattle.register.proofs.Identity.{eqb_identity, enter_all_identical}
 use Rattle.reach.specs.Reached.{coming_up}
 use Rattle.reach.specs.Search.{leads_to, turned, listed_after, codes_of}
 
@@ -167,7 +167,7 @@ listed_entered m (suc n) =
 pub listed_kept : (m : Model) (n : ℕ) → Kept (m.start ∷ coming_up m (take n (listed_after m n))) (listed_after m n)
 listed_kept m n =
     subst (Kept (m.start ∷ coming_up m (take n (listed_after m n)))) (sym (listed_entered m n))
-    (enter_all_kept eqb number_decides (m.start ∷ coming_up m (take n (listed_after m n))))
+    (enter_all_identical eqb eqb_identity (m.start ∷ coming_up m (take n (listed_after m n))))
 
 -- a list whose states have all had their turn
 pub listed_closed : (m : Model) (n : ℕ) → length (listed_after m n) ≤ n → Kept (m.start ∷ coming_up m (listed_after m n)) (listed_after m n)

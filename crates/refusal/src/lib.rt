@@ -2,9 +2,10 @@
 
 #![tactic(auto)]
 
-ghost use Rattle.std.specs.Prelude.{◌≡◌};
+ghost use Rattle.std.specs.Prelude.{◌≡◌, Some};
 ghost use Rattle.refusal.specs.declared.Unread.TheVariants as unread;
 ghost use Rattle.refusal.specs.Numbers.{number as number_of, Apart, sentence as sentence_of, why_unread};
+ghost use Rattle.refusal.specs.Texts.{fault_text, refused_text, unread_text};
 
 use std::alloc::AllocError;
 use std::error::Error;
@@ -41,6 +42,12 @@ pub struct Fault {
     pub place: usize,
 }
 
+// A refusal that is about no word.
+#[derive(Clone, Copy, Debug, PartialEq, Eq)]
+pub struct Refused {
+    pub refusal: Refusal,
+}
+
 // Why a book is not read: its file is refused, or there is not enough memory for it.
 #[derive(Clone, Copy, Debug, PartialEq, Eq)]
 pub enum Unread {
@@ -67,7 +74,7 @@ impl Refusal {
         }
     }
 
-    // What to tell a person. A contract can speak of this text, and of what `Display` prints none can.
+    // What to tell a person.
     pub fn sentence(&self) -> &'static str
         ensures { result.now ≡ sentence_of self.now }
     {
@@ -109,12 +116,26 @@ impl Unread {
 }
 
 impl fmt::Display for Refusal {
+    ghost output = { λ r. Some (sentence_of r) };
+
     fn fmt<W: fmt::Write>(&self, f: &mut fmt::Formatter<W>) -> fmt::Result {
         f.write_str(self.sentence())
     }
 }
 
+impl fmt::Display for Refused {
+    ghost output = { λ r. Some (refused_text r) };
+
+    fn fmt<W: fmt::Write>(&self, f: &mut fmt::Formatter<W>) -> fmt::Result {
+        let refusal = self.refusal;
+        let number = refusal.number();
+        write!(f, "refused: {number}: {refusal}")
+    }
+}
+
 impl fmt::Display for Fault {
+    ghost output = { λ f. Some (fault_text f) };
+
     fn fmt<W: fmt::Write>(&self, f: &mut fmt::Formatter<W>) -> fmt::Result {
         let Fault { refusal, place } = self;
         let number = refusal.number();
@@ -123,6 +144,8 @@ impl fmt::Display for Fault {
 }
 
 impl fmt::Display for Unread {
+    ghost output = { λ u. Some (unread_text u) };
+
     fn fmt<W: fmt::Write>(&self, f: &mut fmt::Formatter<W>) -> fmt::Result {
         match self {
             Unread::Refused(fault) => write!(f, "{fault}"),
@@ -132,6 +155,8 @@ impl fmt::Display for Unread {
 }
 
 impl Error for Refusal {}
+
+impl Error for Refused {}
 
 impl Error for Fault {}
 

@@ -1,17 +1,18 @@
 -- The keys of a list are entered into a table one after another: once all are entered they stand first in it, and a key that is refused shows that they do not fit.
 use Rattle.std.proofs.Common.{◌≡◌, ℕ, ◌+◌, ◌-◌, ◌<◌, ◌≤◌, Bool, List, [], ◌∷◌, ◌++◌, length, get_or, take, drop, Some, None, Option, sym, ap, ◌∙◌, subst, arith}
-use Rattle.register.specs.Keys.{Decides, Kept, place_of, enter, enter_all, Counted}
+use Rattle.std.specs.Cmp.{IsEquivalence}
+use Rattle.register.specs.Keys.{Equal, KeptBy, place_of, enter, enter_all, Counted}
 use Rattle.register.proofs.Keys.{enter_new, enter-length, enter_all-append, enter_all_more, enter_all-length, enter_all-take}
 use Rattle.register.proofs.Order.{enter_all_kept}
 use Rattle.std.proofs.lemmas.List.{take_all, take-append-drop, length-take-le, length_push, drop-drop}
 
-pub counted : {K : Type 0} (eq : K → K → Bool) → Decides eq → (ks start before xs : List K) (n i m : ℕ) → n ≤ length xs → length ks ≤ i → take n xs ≡ enter_all eq [] (take i ks) → drop n xs ≡ drop n start → start ≡ before → m ≡ length (take n xs) → (x : List K) → x ≡ xs → Counted eq ks before x (Some m)
-counted eq D ks start before xs n i m fits end held rest start_is len x e =
+pub counted : {K : Type 0} (eq : K → K → Bool) → IsEquivalence eq → (ks start before xs : List K) (n i m : ℕ) → n ≤ length xs → length ks ≤ i → take n xs ≡ enter_all eq [] (take i ks) → drop n xs ≡ drop n start → start ≡ before → m ≡ length (take n xs) → (x : List K) → x ≡ xs → Counted eq ks before x (Some m)
+counted eq E ks start before xs n i m fits end held rest start_is len x e =
     let all : take n xs ≡ enter_all eq [] ks = held ∙ ap (enter_all eq []) (take_all i ks end) in
     let m-is : n ≡ m = sym (len ∙ length-take-le n xs fits) in
     let first : take m x ≡ enter_all eq [] ks =
     ap (take m) e ∙ subst (λ (j : ℕ). take j xs ≡ enter_all eq [] ks) m-is all in (
-      subst (Kept ks) (sym first) (enter_all_kept eq D ks),
+      subst (KeptBy (Equal eq) ks) (sym first) (enter_all_kept eq E ks),
       first,
       len ∙ ap length all,
       ap (drop m) e ∙ subst (λ (j : ℕ). drop j xs ≡ drop j before) m-is (rest ∙ ap (drop n) start_is),

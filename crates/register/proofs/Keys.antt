@@ -2,7 +2,8 @@
 use Rattle.std.proofs.Common.{◌≡◌, ℕ, zero, suc, ◌+◌, ◌<◌, ◌≤◌, Bool, true, false, cond, List, [], ◌∷◌, ◌++◌, length, get_or, take, sym, refl, ap, ◌∙◌, subst, ⊎_elim, arith}
 use Rattle.std.specs.List.{ContainsAt as Has}
 use Rattle.std.proofs.ByRecursion.{has_get_or}
-use Rattle.register.specs.Keys.{Decides, Distinct, place_of, enter, enter_all}
+use Rattle.std.specs.Cmp.{IsEquivalence}
+use Rattle.register.specs.Keys.{Equal, DistinctBy, place_of, enter, enter_all}
 use Rattle.std.proofs.lemmas.List.{length_push, get_or_append_left, get_or_push, take_at, take_all, take-take, take_more}
 use Rattle.std.proofs.lemmas.Bool.{cond_both, cond-true, cond-false, both_ways, lt-ltb, le-ltb, cases_lt}
 
@@ -12,25 +13,25 @@ place_of_le eq k (x ∷ xs) =
     let rest : place_of eq k xs ≤ length xs = place_of_le eq k xs in
     cond_both (eq k x) 0 (suc (place_of eq k xs)) (λ n. n ≤ suc (length xs)) (λ e. omega arith) (λ e. omega arith)
 
--- the key stands at its place
-pub place_of_at : {K : Type 0} (eq : K → K → Bool) → Decides eq → (k : K) (ks : List K) (d : K) → place_of eq k ks < length ks → get_or ks (place_of eq k ks) d ≡ k
-place_of_at eq D k [] d = λ l. absurd (omega arith)
-place_of_at eq D k (x ∷ xs) d =
-    cond_both (eq k x) 0 (suc (place_of eq k xs)) (λ n. n < suc (length xs) → get_or (x ∷ xs) n d ≡ k)
-    (λ e l. sym (D.only k x e))
-    (λ e l. place_of_at eq D k xs d (omega arith))
+-- at its place the test holds,
+pub place_of_holds : {K : Type 0} (eq : K → K → Bool) (k : K) (ks : List K) (d : K) → place_of eq k ks < length ks → eq k (get_or ks (place_of eq k ks) d) ≡ true
+place_of_holds eq k [] d = λ l. absurd (omega arith)
+place_of_holds eq k (x ∷ xs) d =
+    cond_both (eq k x) 0 (suc (place_of eq k xs)) (λ n. n < suc (length xs) → eq k (get_or (x ∷ xs) n d) ≡ true)
+    (λ e l. e)
+    (λ e l. place_of_holds eq k xs d (omega arith))
 
--- and nowhere before it
-pub place_of_before : {K : Type 0} (eq : K → K → Bool) → Decides eq → (k : K) (ks : List K) (i : ℕ) (d : K) → i < place_of eq k ks → get_or ks i d ≡ k → ⊥
-place_of_before eq D k [] i d = λ l. absurd (omega arith)
-place_of_before eq D k (x ∷ xs) zero d =
-    cond_both (eq k x) 0 (suc (place_of eq k xs)) (λ n. 0 < n → x ≡ k → ⊥)
+-- and before it nowhere
+pub place_of_fails : {K : Type 0} (eq : K → K → Bool) (k : K) (ks : List K) (i : ℕ) (d : K) → i < place_of eq k ks → eq k (get_or ks i d) ≡ false
+place_of_fails eq k [] i d = λ l. absurd (omega arith)
+place_of_fails eq k (x ∷ xs) zero d =
+    cond_both (eq k x) 0 (suc (place_of eq k xs)) (λ n. 0 < n → eq k x ≡ false)
     (λ e l. absurd (omega arith))
-    (λ e l h. both_ways (eq k x) e (subst (λ y. eq k y ≡ true) (sym h) (D.self k)))
-place_of_before eq D k (x ∷ xs) (suc i) d =
-    cond_both (eq k x) 0 (suc (place_of eq k xs)) (λ n. suc i < n → get_or xs i d ≡ k → ⊥)
+    (λ e l. e)
+place_of_fails eq k (x ∷ xs) (suc i) d =
+    cond_both (eq k x) 0 (suc (place_of eq k xs)) (λ n. suc i < n → eq k (get_or xs i d) ≡ false)
     (λ e l. absurd (omega arith))
-    (λ e l. place_of_before eq D k xs i d (omega arith))
+    (λ e l. place_of_fails eq k xs i d (omega arith))
 
 -- a search that has come to i finds the key there,
 pub place_of_here : {K : Type 0} (eq : K → K → Bool) (k : K) (ks : List K) (i : ℕ) (d : K) → i ≤ place_of eq k ks → i < length ks → eq k (get_or ks i d) ≡ true → place_of eq k ks ≡ i
@@ -69,31 +70,30 @@ enter-take eq k ks =
     enter_both eq k ks (λ r. take (length ks) r ≡ ks) (λ _. take_all (length ks) ks (omega arith))
     (λ _. take_at ks (k ∷ []) (length ks) refl)
 
--- a key with a place among the keys is there,
-pub placed_has : {K : Type 0} (eq : K → K → Bool) → Decides eq → (k : K) (ks : List K) → place_of eq k ks < length ks → Has ks k
-placed_has eq D k ks l = (place_of eq k ks, l, λ d. place_of_at eq D k ks d l)
+-- what stands at the place of a key among the keys is equal to it,
+pub placed_has : {K : Type 0} (eq : K → K → Bool) (k : K) (ks : List K) → place_of eq k ks < length ks → (y : K) × Has ks y × Equal eq k y
+placed_has eq k ks l = (get_or ks (place_of eq k ks) k, has_get_or ks (place_of eq k ks) k l, place_of_holds eq k ks k l)
 
--- and one with its place past them is not
-pub placed_new : {K : Type 0} (eq : K → K → Bool) → Decides eq → (k : K) (ks : List K) → place_of eq k ks ≡ length ks → Has ks k → ⊥
-placed_new eq D k ks e (i, l, at) = place_of_before eq D k ks i k (omega arith) (at k)
+-- and to a key with its place past them none is
+pub placed_new : {K : Type 0} (eq : K → K → Bool) → IsEquivalence eq → (k : K) (ks : List K) → place_of eq k ks ≡ length ks → (y : K) → Has ks y → Equal eq y k → ⊥
+placed_new eq E k ks e y (i, l, at) same =
+    both_ways (eq k y) (subst (λ x. eq k x ≡ false) (at k) (place_of_fails eq k ks i k (omega arith))) (E.symm k y ∙ same)
 
-pub new_apart : {K : Type 0} (k : K) (ks : List K) → Distinct ks → (Has ks k → ⊥) → Distinct (ks ++ (k ∷ []))
-new_apart k ks apart new i j d (l, m) e =
+pub new_apart : {K : Type 0} (Same : K → K → Type 0) (k : K) (ks : List K) → DistinctBy Same ks → ((y : K) → Has ks y → Same y k → ⊥) → DistinctBy Same (ks ++ (k ∷ []))
+new_apart Same k ks apart new i j d (l, m) same =
     let i-in : i < length ks = omega (arith, length_push ks k) in
     let at_i = get_or_append_left ks (k ∷ []) d i i-in in
+    let here = subst (λ x. Same x (get_or (ks ++ (k ∷ [])) j d)) at_i same in
     ⊎_elim
-    (λ (j-in : j < length ks). apart i j d (l, j-in) (sym at_i ∙ e ∙ get_or_append_left ks (k ∷ []) d j j-in))
+    (λ (j-in : j < length ks). apart i j d (l, j-in) (subst (Same (get_or ks i d)) (get_or_append_left ks (k ∷ []) d j j-in) here))
     (λ (past : length ks ≤ j).
     let last : length ks ≡ j = omega (arith, length_push ks k) in
-    new (subst (Has ks) (sym at_i ∙ e ∙ get_or_push ks k d j last) (has_get_or ks i d i-in)))
+    new (get_or ks i d) (has_get_or ks i d i-in) (subst (Same (get_or ks i d)) (get_or_push ks k d j last) here))
     (cases_lt j (length ks))
 
-pub push-distinct : {K : Type 0} (eq : K → K → Bool) → Decides eq → (k : K) (ks : List K) → Distinct ks → place_of eq k ks ≡ length ks → Distinct (ks ++ (k ∷ []))
-push-distinct eq D k ks apart e = new_apart k ks apart (placed_new eq D k ks e)
-
-pub enter_distinct : {K : Type 0} (eq : K → K → Bool) → Decides eq → (k : K) (ks : List K) → Distinct ks → Distinct (enter eq k ks)
-enter_distinct eq D k ks apart =
-    enter_both eq k ks Distinct (λ _. apart) (push-distinct eq D k ks apart)
+pub enter_distinct : {K : Type 0} (eq : K → K → Bool) → IsEquivalence eq → (k : K) (ks : List K) → DistinctBy (Equal eq) ks → DistinctBy (Equal eq) (enter eq k ks)
+enter_distinct eq E k ks apart =
+    enter_both eq k ks (DistinctBy (Equal eq)) (λ _. apart) (λ e. new_apart (Equal eq) k ks apart (placed_new eq E k ks e))
 
 pub enter_all-append : {K : Type 0} (eq : K → K → Bool) (held ks js : List K) → enter_all eq held (ks ++ js) ≡ enter_all eq (enter_all eq held ks) js
 enter_all-append eq held [] js = refl
@@ -121,14 +121,16 @@ enter_all-take eq held (k ∷ ks) =
     ∙ ap (take (length held)) (enter_all-take eq (enter eq k held) ks)
     ∙ enter-take eq k held
 
--- a list with no key twice gives each key its own place
-pub place_of-get_or : {K : Type 0} (eq : K → K → Bool) → Decides eq → (ks : List K) (i : ℕ) (d : K) → Distinct ks → i < length ks → place_of eq (get_or ks i d) ks ≡ i
-place_of-get_or eq D ks i d apart l =
+-- where no two keys are equal, the place of a key is wherever one stands that is equal to it
+pub place_of_equal : {K : Type 0} (eq : K → K → Bool) → IsEquivalence eq → (k : K) (ks : List K) (i : ℕ) (d : K) → DistinctBy (Equal eq) ks → i < length ks → eq k (get_or ks i d) ≡ true → place_of eq k ks ≡ i
+place_of_equal eq E k ks i d apart l same =
+    let p = place_of eq k ks in
     ⊎_elim
-    (λ (sooner : place_of eq (get_or ks i d) ks < i).
-    absurd (apart (place_of eq (get_or ks i d) ks) i d (sooner, l) (place_of_at eq D (get_or ks i d) ks d (omega arith))))
-    (λ (upto : i ≤ place_of eq (get_or ks i d) ks). place_of_here eq (get_or ks i d) ks i d upto l (D.self (get_or ks i d)))
-    (cases_lt (place_of eq (get_or ks i d) ks) i)
+    (λ (sooner : p < i).
+    let at : eq k (get_or ks p d) ≡ true = place_of_holds eq k ks d (omega arith) in
+    absurd (apart p i d (sooner, l) (sym (E.congr k (get_or ks p d) (get_or ks i d) at) ∙ same)))
+    (λ (upto : i ≤ p). place_of_here eq k ks i d upto l same)
+    (cases_lt p i)
 
 -- what stands after a key does not move it
 pub place_of_append : {K : Type 0} (eq : K → K → Bool) (k : K) (ks js : List K) → place_of eq k ks < length ks → place_of eq k (ks ++ js) ≡ place_of eq k ks

@@ -1,8 +1,10 @@
 pub mod Agree
 pub mod Counting
+pub mod Identity
 pub mod Keys
 pub mod Order
 pub mod Steps
 pub mod Table
 pub mod Latest
+pub mod Sameness
 pub mod Search

@@ -1,17 +1,26 @@
--- A register keeps each key once, in the order of entry: entering a key puts it at the end of the list, unless it stands there.
--- The place of a key is where it first stands, counted from 0, or the list's length where it stands nowhere.
-use Rattle.std.specs.Prelude.{◌≡◌, ℕ, suc, ◌<◌, ◌≤◌, Bool, true, cond, List, [], ◌∷◌, ◌++◌, length, take, drop, Some, None, Option, ◌≢◌, nat_eq, nat_lt, refl, slice_index_or}
+-- A register keeps, of keys that are equal, the first, in the order of entry: entering a key puts it at the end of the list, unless one that is equal to it stands there.
+-- Which keys are equal is told by a test of two keys, the key's own `==`. The place of a key is where the first that is equal to it stands, counted
+-- from 0, or the list's length where none does.
+use Rattle.std.specs.Prelude.{◌≡◌, ℕ, suc, ◌+◌, ◌<◌, ◌≤◌, Bool, true, false, cond, List, [], ◌∷◌, ◌++◌, length, take, drop, Some, None, Option, nat_lt, slice_index_or}
 use Rattle.std.specs.List.{ContainsAt as Has}
-use Rattle.std.proofs.lemmas.Bool.{eqb-true, eq-eqb}
 
--- a test that says of any two keys whether they are one
-pub record Decides {K : Type 0} (eq : K → K → Bool) : Type 0 where
-  pub only : (x y : K) → eq x y ≡ true → x ≡ y
-  pub self : (x : K) → eq x x ≡ true
+-- equal keys have one number, that of their bucket: the law of a key
+abbrev pub SharesBucket : {K : Type 0} → (K → K → Bool) → (K → ℕ) → Type 0
+SharesBucket {K} eq number = (x y : K) → eq x y ≡ true → number x ≡ number y
 
--- no key stands at two places
+-- two keys are the same: by a test, or as values
+abbrev pub Equal : {K : Type 0} → (K → K → Bool) → K → K → Type 0
+Equal eq x y = eq x y ≡ true
+
+abbrev pub Identical : {K : Type 0} → K → K → Type 0
+Identical x y = x ≡ y
+
+-- of the keys at two places no two are the same
+abbrev pub DistinctBy : {K : Type 0} → (K → K → Type 0) → List K → Type 0
+DistinctBy {K} Same ks = (i j : ℕ) (d : K) → (i < j) × (j < length ks) → ¬ Same (slice_index_or ks i d) (slice_index_or ks j d)
+
 abbrev pub Distinct : {K : Type 0} → List K → Type 0
-Distinct {K} ks = (i j : ℕ) (d : K) → (i < j) × (j < length ks) → slice_index_or ks i d ≢ slice_index_or ks j d
+Distinct ks = DistinctBy Identical ks
 
 abbrev pub place_of : {K : Type 0} → (K → K → Bool) → K → List K → ℕ
 place_of eq k [] = 0
@@ -25,13 +34,18 @@ abbrev pub enter_all : {K : Type 0} → (K → K → Bool) → List K → List K
 enter_all eq held [] = held
 enter_all eq held (k ∷ ks) = enter_all eq (enter eq k held) ks
 
--- what a register holds after the keys of ks came one after another: each once, all of them and no other, in the order in which they first came
-pub record Kept {K : Type 0} (ks held : List K) : Type 0 where
-  pub once : Distinct held
+-- what a register holds after the keys of ks came one after another: of those that are the same the first, and no other, in the order in which they came
+pub record KeptBy {K : Type 0} (Same : K → K → Type 0) (ks held : List K) : Type 0 where
+  pub once : DistinctBy Same held
   pub only : (x : K) → Has held x → Has ks x
-  pub every : (x : K) → Has ks x → Has held x
-  -- wherever the later of two keys came, the earlier had come before
-  pub order : (i j q : ℕ) (d : K) → i < j → j < length held → q < length ks → slice_index_or ks q d ≡ slice_index_or held j d → Has (take q ks) (slice_index_or held i d)
+  pub every : (x : K) → Has ks x → (y : K) × Has held y × Same x y
+  -- wherever one came that is the same as one that is held, this had come, or came then
+  pub first : (j q : ℕ) (d : K) → j < length held → q < length ks → Same (slice_index_or ks q d) (slice_index_or held j d) → Has (take (q + 1) ks) (slice_index_or held j d)
+  -- wherever one came that is the same as the later of two that are held, the earlier had come before
+  pub order : (i j q : ℕ) (d : K) → i < j → j < length held → q < length ks → Same (slice_index_or ks q d) (slice_index_or held j d) → Has (take q ks) (slice_index_or held i d)
+
+abbrev pub Kept : {K : Type 0} → List K → List K → Type 0
+Kept ks held = KeptBy Identical ks held
 
 -- the answer to where a key stands among ks
 abbrev pub Placed : {K : Type 0} → (K → K → Bool) → K → List K → Option ℕ → Type 0
@@ -50,14 +64,10 @@ Stands ks p None = length ks ≤ p
 
 -- the answer to how many different keys there are in ks, counted in a table: they stand first in it, and the rest is as it was; or they do not fit, and those that come first fill it
 abbrev pub Counted : {K : Type 0} → (K → K → Bool) → List K → List K → List K → Option ℕ → Type 0
-Counted eq ks before after (Some n) = Kept ks (take n after) × (take n after ≡ enter_all eq [] ks) × (n ≡ length (enter_all eq [] ks)) × (drop n after ≡ drop n before)
+Counted eq ks before after (Some n) = KeptBy (Equal eq) ks (take n after) × (take n after ≡ enter_all eq [] ks) × (n ≡ length (enter_all eq [] ks)) × (drop n after ≡ drop n before)
 Counted eq ks before after None = (length before < length (enter_all eq [] ks)) × (after ≡ take (length before) (enter_all eq [] ks))
 
--- the answer to where, from a place on and before another, the key k stands in ks
-abbrev pub Found : {K : Type 0} → List K → K → ℕ → ℕ → Option ℕ → Type 0
-Found ks k from end (Some p) = (from ≤ p) × (p < end) × (slice_index_or ks p k ≡ k)
-Found ks k from end None = (q : ℕ) → from ≤ q → q < end → slice_index_or ks q k ≢ k
-
--- the numbers' own test decides
-pub number_decides : Decides nat_eq
-number_decides = record { only = eqb-true; self = λ x. eq-eqb x x refl }
+-- the answer to where, from a place on and before another, a key equal to k stands in ks
+abbrev pub Found : {K : Type 0} → (K → K → Bool) → List K → K → ℕ → ℕ → Option ℕ → Type 0
+Found eq ks k from end (Some p) = (from ≤ p) × (p < end) × (eq k (slice_index_or ks p k) ≡ true)
+Found eq ks k from end None = (q : ℕ) → from ≤ q → q < end → eq k (slice_index_or ks q k) ≡ false

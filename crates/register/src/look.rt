@@ -50,7 +50,7 @@ impl<K: Key> Register<'_, K> {
     // Where it stands among the chained places: the search goes back through its bucket. It is a `while`,
     // since `find` asks for an iterator that ends, and none of `successors` is known to.
     fn chained_place(&self, key: &K) -> Option<usize>
-        ensures { Found (listed self.now) key.now 0 (min self.now.len 4096) result }
+        ensures { Found K.PartialEq.eq (listed self.now) key.now 0 (min self.now.len 4096) result }
     {
         let keys = &*self.keys;
         let mut at = self.chains.heads[bucket_of(key)] as usize;
@@ -66,7 +66,7 @@ impl<K: Key> Register<'_, K> {
 
     // Where it stands past the chained places.
     fn later_place(&self, key: &K) -> Option<usize>
-        ensures { Found (listed self.now) key.now 4096 self.now.len result }
+        ensures { Found K.PartialEq.eq (listed self.now) key.now 4096 self.now.len result }
     {
         let later = self.as_slice().get(CHAINED..)?;
         let place = later.iter().position(|other| other == key)?;

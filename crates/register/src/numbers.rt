@@ -1,12 +1,12 @@
 // Numbers are keys.
-ghost use Rattle.register.specs.Keys.{number_decides};
+ghost use Rattle.std.proofs.Common.{eqb-true};
 
 use super::Key;
 
 impl Key for u64 {
     ghost bucket = { λ n. n };
 
-    ghost decides = { number_decides };
+    ghost shares_bucket = { eqb-true };
 
     fn bucket(&self) -> usize {
         *self as usize

@@ -2,8 +2,10 @@
 ghost use Rattle.std.specs.Prelude.{◌≡◌, ◌<◌, true, ◌&&◌, [], ◌∷◌, ◌++◌, length, ◌==◌};
 ghost use Rattle.bounded.specs.Listed.{listed};
 ghost use Rattle.words.specs.Format.{Faithful, reading};
+ghost use Rattle.words.specs.Refusing.{RefusesRightly};
 ghost use Rattle.rulelayout.specs.Rule.{Rule, valid};
-ghost use Rattle.rulelayout.specs.Layout.{Draft as Words, listed as acts_read, rule_format, rule_words, read_word, whole_rule, filled, Sound, sound-prop};
+ghost use Rattle.rulelayout.specs.Layout.{Draft as Words, listed as acts_read, rule_format, rule_words, read_word, whole_rule, filled, Good, good-prop, written};
+ghost use Rattle.rulelayout.specs.WordTests.{may_end, passes, closes};
 ghost use Rattle.rulebook.specs.Acts.{act_from};
 ghost use Rattle.rulebook.specs.Drafts.{list_from, draft_from, step_from, turn_from};
 ghost use Rattle.rulebook.specs.Contents.{contents, verdict_from};
@@ -59,11 +61,11 @@ fn needless(action: &Action) -> bool
     action.on == 0 && action.off == 0
 }
 
-// A sound draft of a rule book.
+// A good draft of a rule book.
 #[derive(Clone, Copy)]
 struct Reading {
     stage: Stage,
-    ghost sound: { Sound (draft_from stage) } by { sound-prop (draft_from stage) },
+    ghost good: { Good (draft_from stage) } by { good-prop (draft_from stage) },
 }
 
 impl Reading {
@@ -120,7 +122,7 @@ impl Draft for Reading {
         }
     }
 
-    #[tactic(auto, using(rulelayout::proofs::Faithful::sound_steps))]
+    #[tactic(auto, using(rulelayout::proofs::Faithful::good_steps))]
     fn step(&mut self, word: u32) -> Result<Turn, Refusal> {
         match self.next(word)? {
             Some(stage) => {
@@ -148,10 +150,11 @@ impl Draft for Reading {
 }
 
 // The rule book in a file's bytes, or the first refusal and the place of its word.
-#[tactic(auto, using(rulelayout::proofs::Faithful::rule_faithful))]
+#[tactic(auto, using(rulelayout::proofs::Faithful::rule_faithful, rulelayout::proofs::Refusing::rule_refuses))]
 pub fn read_rule(bytes: &[u8]) -> Result<RuleBook, Fault>
     ensures reads { reading rule_format bytes.now ≡ verdict_from result }
     ensures faithful { Faithful rule_format (λ b. valid b ≡ true) rule_words }
+    ensures refuses { RefusesRightly rule_format Good written may_end passes closes }
 {
     read::<Reading>(bytes)
 }

@@ -1,3 +1,4 @@
 pub mod OneWord
 pub mod Faithful
+pub mod Refusing
 mod Examples

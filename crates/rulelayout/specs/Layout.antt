@@ -102,24 +102,33 @@ whole_rule (whole h acts) = require (waits acts) NoWait (Ok (rule_of h acts))
 abbrev pub rule_format : Format Draft Rule
 rule_format = record { start = blank; step = read_word; finish = whole_rule }
 
--- what holds of every draft that reading comes to
+-- what has been said so far
+
+-- the words that a draft was read from
+abbrev pub written : Draft → List ℕ
+written blank = []
+written (listing h acts) = word_of_head h.switches h.actions h.start ∷ act_words acts
+written (inside h acts m es) = word_of_head h.switches h.actions h.start ∷ (act_words acts ++ (action_word m.first m.second m.count ∷ effect_words es))
+written (whole h acts) = word_of_head h.switches h.actions h.start ∷ act_words acts
+
+-- what is known of a draft: the head, the actions and the outcomes that it has are good ones, and there is room for what is due
 
 abbrev pub Begun : RuleHead → List Act → Type 0
 Begun h acts = (good_head h.switches h.actions h.start ≡ true) × (all (good_act h.switches) acts ≡ true)
 
-abbrev pub Sound : Draft → Type 0
-Sound blank = Unit {0}
-Sound (listing h acts) = Begun h acts × (length acts < h.actions)
-Sound (inside h acts m es) =
+abbrev pub Good : Draft → Type 0
+Good blank = Unit {0}
+Good (listing h acts) = Begun h acts × (length acts < h.actions)
+Good (inside h acts m es) =
     Begun h acts × (length acts < h.actions)
     × (fits h.switches m.first m.second m.count ≡ true)
     × (all (good_effect h.switches) es ≡ true)
     × (length es < m.count)
-Sound (whole h acts) = Begun h acts × (length acts ≡ h.actions)
+Good (whole h acts) = Begun h acts × (length acts ≡ h.actions)
 
--- a draft is sound in one way only
-pub sound-prop : (d : Draft) → IsProp (Sound d)
-sound-prop blank = Unit-prop
-sound-prop (listing h acts) = Prim.hlevel props
-sound-prop (inside h acts m es) = Prim.hlevel props
-sound-prop (whole h acts) = Prim.hlevel props
+-- a draft is good in one way only
+pub good-prop : (d : Draft) → IsProp (Good d)
+good-prop blank = Unit-prop
+good-prop (listing h acts) = Prim.hlevel props
+good-prop (inside h acts m es) = Prim.hlevel props
+good-prop (whole h acts) = Prim.hlevel props

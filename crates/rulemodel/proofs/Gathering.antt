@@ -8,8 +8,8 @@ use Rattle.std.proofs.lemmas.List.Sums.{sum_by-cons}
 use Rattle.model.specs.declared.Outcome.{Outcome}
 use Rattle.model.specs.Histories.{targets_of}
 use Rattle.model.specs.Models.{total as weights}
-use Rattle.register.specs.Keys.{number_decides, Kept, place_of, enter, enter_all}
-use Rattle.register.proofs.Order.{enter_all_kept}
+use Rattle.register.specs.Keys.{Kept, place_of, enter, enter_all}
+use Rattle.register.proofs.Identity.{eqb_identity, enter_all_identical}
 use Rattle.words.specs.Tests.{all}
 use Rattle.rulelayout.specs.declared.Effect.{Effect}
 use Rattle.rulelayout.specs.Rule.{total}
@@ -46,7 +46,7 @@ targets_onto s os (e ∷ es) =
     ∙ ap (λ (ks : List ℕ). enter_all eqb ks (map (landing s) es)) (targets_added os (landing s e) e.weight)
 
 pub targets_kept : (s : ℕ) (es : List Effect) → Kept (map (landing s) es) (targets_of (landings s es))
-targets_kept s es = subst (Kept (map (landing s) es)) (sym (targets_onto s [] es)) (enter_all_kept eqb number_decides (map (landing s) es))
+targets_kept s es = subst (Kept (map (landing s) es)) (sym (targets_onto s [] es)) (enter_all_identical eqb eqb_identity (map (landing s) es))
 
 -- weights
 

@@ -5,8 +5,19 @@ use Rattle.std.proofs.lemmas.Bool.{cases_lt, false≢true}
 use Rattle.std.proofs.lemmas.List.{take_all, take_at, length-take, length_push, map-set, get_or-map}
 use Rattle.bounded.specs.declared.Bounded.{Bounded}
 use Rattle.bounded.specs.Listed.{listed}
+use Rattle.sitelayout.specs.declared.Mark.{Mark}
 use Rattle.sitelayout.specs.declared.Move.{Move}
 use Rattle.sitelayout.specs.Layout.{padded}
+
+-- the marks that there is room for
+
+-- a mark more, of which no more than those are kept
+pub take_push : (r : ℕ) (ms : List Mark) (m : Mark) → take r (take r ms ++ (m ∷ [])) ≡ take r (ms ++ (m ∷ []))
+take_push zero ms m = refl
+take_push (suc r) [] m = refl
+take_push (suc r) (x ∷ ms) m = ap (λ l. x ∷ l) (take_push r ms m)
+
+-- the cells
 
 abbrev pub firsts : ℕ → List (List Move) → List (List Move)
 firsts zero cs = []

@@ -1,7 +1,8 @@
 -- The tables follow the draft of the book that is being read, and at the end they hold the book. For others: `Storing`, what
 -- is known of the pass so far, and the `storing_` lemmas, one for each thing that the pass does.
 use Rattle.std.proofs.Common.{◌≡◌, ℕ, zero, suc, ◌+◌, ◌-◌, ◌*◌, ◌<◌, ◌≤◌, true, not, eqb, ltb, leb, List, [], ◌∷◌, ◌++◌, length, get_or, set, take, drop, replicate, Some, None, Ok, sym, refl, ap, ◌∙◌, subst, inl, inr, arith, rules}
-use Rattle.std.proofs.lemmas.List.{append_assoc, length_push, replicate_more}
+use Rattle.std.proofs.Math.Seq.{take-nil}
+use Rattle.std.proofs.lemmas.List.{append_assoc, length_push, replicate_more, take_all}
 use Rattle.std.proofs.lemmas.Bool.{cases_Bool, leb-true, cond-true, cond-false}
 use Rattle.refusal.specs.declared.Refusal.TheVariants.{WrongTotal, NotRising}
 use Rattle.words.specs.Words.{kind, first_word}
@@ -18,24 +19,29 @@ use Rattle.sitelayout.specs.Kinds.{numbered, kind_of}
 use Rattle.sitelayout.specs.OneWord.{entry_in, head_of, mask_of, reward_of, entry_of, move_of}
 use Rattle.sitelayout.specs.Site.{Site, taken, total, valid}
 use Rattle.sitelayout.specs.Layout as layout
-use Rattle.sitelayout.specs.Layout.{Draft, fresh, marking, listing, moving, place_of, padded, marked, read_entry, moved, read_move, read_word, whole_book, site_format}
-use Rattle.sitelayout.proofs.Account.{more_is_no_end, padded-length, Good, word_kept, end_word_reads, whole_book_is, book_kept}
+use Rattle.sitelayout.specs.Layout.{Draft, fresh, marking, listing, moving, place_of, padded, marked, read_entry, moved, read_move, read_word, whole_book, site_format, Good}
+use Rattle.sitelayout.proofs.Account.{more_is_no_end, padded-length, word_kept, end_word_reads, whole_book_is, book_kept}
 use Rattle.sitelayout.proofs.OneWords.{head_fields, mask_fields, reward_fields, entry_fields, move_fields}
 use Rattle.siteverdict.specs.declared.Counts.{Counts}
 use Rattle.siteverdict.specs.Counting.{bound_of, Counted}
 use Rattle.sitebook.specs.Storing.{Held, nothing, with_head, with_mask, with_mark, with_entry, with_move, put_as, put_of}
-use Rattle.sitebook.proofs.Cells.{firsts, firsts_none, firsts_filled, firsts-push, firsts_whole}
+use Rattle.sitebook.proofs.Cells.{take_push, firsts, firsts_none, firsts_filled, firsts-push, firsts_whole}
 
--- n: how many cells the tables have
-module _ (n : ℕ) where
+-- all: the head of the book, for which there is room
+module _ (all : Head) where
+  -- how many cells the tables have
+  abbrev n : ℕ
+  n = all.states * all.actions
+
   pub record Keeps (h : Held) (head : Head) (ms : List Mark) (cs : List (List Move)) : Type 0 where
     pub labels : h.book.labels ≡ head.labels
     pub actions : h.book.actions ≡ head.actions
-    pub marks : h.book.marks ≡ ms
+    pub room : h.room ≡ all.states
+    pub marks : h.book.marks ≡ take all.states ms
     pub cells : h.book.cells ≡ firsts n cs
 
   abbrev pub Stores : Held → Draft → Type 0
-  Stores h fresh = h ≡ nothing n
+  Stores h fresh = h ≡ nothing all
   Stores h (marking head ms None) = Keeps h head ms []
   Stores h (marking head ms (Some k)) = Keeps h head ms [] × (h.mask ≡ k)
   Stores h (listing head ms cs) = Keeps h head ms cs
@@ -62,6 +68,7 @@ module _ (n : ℕ) where
           record {
             labels = of.labels;
             actions = of.actions;
+            room = of.room;
             marks = of.marks;
             cells = of.cells ∙ sym (ap (firsts n) cells ∙ firsts_filled n cs (k - length cs + 1));
           },
@@ -84,6 +91,7 @@ module _ (n : ℕ) where
         stores_moved (with_move h w) head ms cs (mv ++ (x ∷ [])) due e (record {
           labels = of.labels;
           actions = of.actions;
+          room = of.room;
           marks = of.marks;
           cells = (λ i. set (of.cells i) (at i) (take 8 (get_or (of.cells i) (at i) [] ++ (s.3 i ∷ [])))) ∙ firsts-push n cs mv x (omega (arith, length_push mv x));
         }) at passed.1,
@@ -99,7 +107,8 @@ module _ (n : ℕ) where
         subst (λ k. Stores (put_as k h w) e) (sym (ap numbered s.0)) (subst (Stores (with_head h w)) (same_more said.1.1) (record {
           labels = ap (λ (x : Head). x.labels) s.3;
           actions = ap (λ (x : Head). x.actions) s.3;
-          marks = ap (λ (x : Held). x.book.marks) of;
+          room = ap (λ (x : Held). x.room) of;
+          marks = ap (λ (x : Held). x.book.marks) of ∙ sym (take-nil all.states);
           cells = ap (λ (x : Held). x.book.cells) of ∙ sym (firsts_none n);
         })),
       )
@@ -108,7 +117,7 @@ module _ (n : ℕ) where
       let s = mask_fields head.labels w said.0 said.1.0 in (
         omega (arith, s.0),
         subst (λ k. Stores (put_as k h w) e) (sym (ap numbered s.0)) (subst (Stores (with_mask h w)) (same_more said.1.1)
-            (record { labels = of.labels; actions = of.actions; marks = of.marks; cells = of.cells }, s.3)),
+            (record { labels = of.labels; actions = of.actions; room = of.room; marks = of.marks; cells = of.cells }, s.3)),
       )
   stores_step h (marking head ms (Some k)) e w good of is =
       let said = onto_more (reward_of w) (λ r. more (marked head (ms ++ (record { mask = k; worth = r } ∷ [])))) e is in
@@ -120,7 +129,8 @@ module _ (n : ℕ) where
             (record {
               labels = kept.labels;
               actions = kept.actions;
-              marks = λ i. kept.marks i ++ (record { mask = of.1 i; worth = s.3 i } ∷ []);
+              room = kept.room;
+              marks = (λ i. take (kept.room i) (kept.marks i ++ (record { mask = of.1 i; worth = s.3 i } ∷ []))) ∙ take_push all.states ms (record { mask = k; worth = said.0 });
               cells = kept.cells;
             }))),
       )
@@ -138,38 +148,39 @@ module _ (n : ℕ) where
       (omega (arith, s.0), subst (λ k. Stores (put_as k h w) e) (sym (ap numbered s.0)) s.1)
 
 -- the tables at the end of the entries
-book_at_end : (n : ℕ) (h : Held) (head : Head) (ms : List Mark) (cs : List (List Move)) → Keeps n h head ms cs → n ≡ head.states * head.actions → length cs ≤ n → h.book ≡ layout.book_of head ms cs
-book_at_end n h head ms cs of all few =
-    let cells : h.book.cells ≡ padded (head.states * head.actions) cs = of.cells ∙ firsts_whole n cs few ∙ ap (λ n. padded n cs) all in
-    λ i. record { labels = of.labels i; actions = of.actions i; marks = of.marks i; cells = cells i }
+book_at_end : (all : Head) (h : Held) (head : Head) (ms : List Mark) (cs : List (List Move)) → Keeps all h head ms cs → length ms ≤ all.states → all.states * all.actions ≡ head.states * head.actions → length cs ≤ all.states * all.actions
+    → h.book ≡ layout.book_of head ms cs
+book_at_end all h head ms cs of marks count few =
+    let marks : h.book.marks ≡ ms = of.marks ∙ take_all all.states ms marks in
+    let cells : h.book.cells ≡ padded (head.states * head.actions) cs = of.cells ∙ firsts_whole (all.states * all.actions) cs few ∙ ap (λ n. padded n cs) count in
+    λ i. record { labels = of.labels i; actions = of.actions i; marks = marks i; cells = cells i }
 
 -- no other word has the end word's kind
 end_kind : (n : ℕ) → numbered n ≡ Ok End → n ≡ 15
 end_kind n e = grind (arith, e)
 
 -- the pass so far: the tables follow a draft, from which reading on gives the book
-pub record Storing (bytes rest : List ℕ) (c : Counts) (h : Held) : Type 0 where
+pub record Storing (bytes rest : List ℕ) (place : ℕ) (c : Counts) (h : Held) : Type 0 where
   pub book : Site
   pub read : reading site_format bytes ≡ got book
   pub counted : Counted c book
   pub draft : Draft
   pub good : Good draft
-  pub kept : Stores (c.head.states * c.head.actions) h draft
-  pub place : ℕ
+  pub kept : Stores c.head h draft
   pub left : run site_format draft place rest ≡ got book
 
-module _ (bytes rest : List ℕ) (c : Counts) (h : Held) (s : Storing bytes rest c h) where
+module _ (bytes rest : List ℕ) (place : ℕ) (c : Counts) (h : Held) (s : Storing bytes rest place c h) where
   -- the book does not end without an end word
   pub storing_long : length rest < 4 → ⊥
-  storing_long short = stop_is_no_book (sym (run_short site_format s.draft s.place rest short) ∙ s.left)
+  storing_long short = stop_is_no_book (sym (run_short site_format s.draft place rest short) ∙ s.left)
 
   module _ (next : List ℕ) (w : ℕ) (four : 4 ≤ length rest) (word : w ≡ first_word rest) (after-it : next ≡ drop 4 rest) where
-    here : after site_format s.draft s.place w next (read_word s.draft w) ≡ got s.book
+    here : after site_format s.draft place w next (read_word s.draft w) ≡ got s.book
     here =
-        sym (turn site_format s.draft s.place rest next w (read_word s.draft w) (four, word, after-it) refl) ∙ s.left
+        sym (turn site_format s.draft place rest next w (read_word s.draft w) (four, word, after-it) refl) ∙ s.left
 
-    more_by : (st : Step Draft) → read_word s.draft w ≡ st → (kind_of w ≡ Ok End → ⊥) → Storing bytes next c (put_of h w)
-    more_by (wrong r) is inside = absurd (stop_is_no_book (sym (ap (after site_format s.draft s.place w next) is) ∙ here))
+    more_by : (st : Step Draft) → read_word s.draft w ≡ st → (kind_of w ≡ Ok End → ⊥) → Storing bytes next (place + 1) c (put_of h w)
+    more_by (wrong r) is inside = absurd (stop_is_no_book (sym (ap (after site_format s.draft place w next) is) ∙ here))
     more_by ends is inside = absurd (inside (ap numbered (end_word_reads s.draft w is)))
     more_by (more e) is inside = record {
       book = s.book;
@@ -177,18 +188,17 @@ module _ (bytes rest : List ℕ) (c : Counts) (h : Held) (s : Storing bytes rest
       counted = s.counted;
       draft = e;
       good = (word_kept s.draft e w s.good is).0;
-      kept = (stores_step (c.head.states * c.head.actions) h s.draft e w s.good s.kept is).1;
-      place = s.place + 1;
-      left = sym (ap (after site_format s.draft s.place w next) is) ∙ here;
+      kept = (stores_step c.head h s.draft e w s.good s.kept is).1;
+      left = sym (ap (after site_format s.draft place w next) is) ∙ here;
     }
 
-    pub storing_more : (kind_of w ≡ Ok End → ⊥) → Storing bytes next c (put_of h w)
+    pub storing_more : (kind_of w ≡ Ok End → ⊥) → Storing bytes next (place + 1) c (put_of h w)
     storing_more inside = more_by (read_word s.draft w) refl inside
 
     abbrev pub Closes : Type 0
     Closes = (reading site_format bytes ≡ got h.book) × (valid h.book ≡ true) × (c.bound ≡ bound_of h.book.marks)
 
-    closes_table : (d : Draft) → Good d → Stores (c.head.states * c.head.actions) h d → whole_book d ≡ Ok s.book → Closes
+    closes_table : (d : Draft) → Good d → Stores c.head h d → whole_book d ≡ Ok s.book → Closes
     unfolding whole_book
     closes_table fresh good kept whole = search rules
     closes_table (marking head ms o) good kept whole = search rules
@@ -198,18 +208,18 @@ module _ (bytes rest : List ℕ) (c : Counts) (h : Held) (s : Storing bytes rest
         let states : c.head.states ≡ head.states = s.counted.states ∙ ap (λ (b : Site). length b.marks) (sym same) ∙ good.1.0 in
         let actions : c.head.actions ≡ head.actions = s.counted.actions ∙ ap (λ (b : Site). b.actions) (sym same) in
         let count : c.head.states * c.head.actions ≡ head.states * head.actions = (λ i. states i * actions i) in
-        let is : h.book ≡ s.book = book_at_end (c.head.states * c.head.actions) h head ms cs kept count (omega (arith, good.1.1.1, count)) ∙ same in (
+        let is : h.book ≡ s.book = book_at_end c.head h head ms cs kept (omega (arith, states, good.1.0)) count (omega (arith, good.1.1.1, count)) ∙ same in (
           s.read ∙ ap (λ (b : Site). got b) (sym is),
           ap valid is ∙ (book_kept (listing head ms cs) s.book good whole).0,
           s.counted.bound ∙ ap (λ (b : Site). bound_of b.marks) (sym is),
         )
 
     closes_by : (st : Step Draft) → read_word s.draft w ≡ st → kind_of w ≡ Ok End → Closes
-    closes_by (wrong r) is end = absurd (stop_is_no_book (sym (ap (after site_format s.draft s.place w next) is) ∙ here))
-    closes_by (more e) is end = absurd (omega (arith, (stores_step (c.head.states * c.head.actions) h s.draft e w s.good s.kept is).0, end_kind (kind w) end))
+    closes_by (wrong r) is end = absurd (stop_is_no_book (sym (ap (after site_format s.draft place w next) is) ∙ here))
+    closes_by (more e) is end = absurd (omega (arith, (stores_step c.head h s.draft e w s.good s.kept is).0, end_kind (kind w) end))
     closes_by ends is end =
         closes_table s.draft s.good s.kept
-        (whole_of (whole_book s.draft) s.place w next s.book (sym (ap (after site_format s.draft s.place w next) is) ∙ here)).2
+        (whole_of (whole_book s.draft) place w next s.book (sym (ap (after site_format s.draft place w next) is) ∙ here)).2
 
     pub storing_end : kind_of w ≡ Ok End → Closes
     storing_end end = closes_by (read_word s.draft w) refl end

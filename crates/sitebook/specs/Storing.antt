@@ -1,7 +1,8 @@
 -- What storing a book does at each word: what the tables say so far, and what a word of each kind puts into them.
 -- The words are those of a file that is known to be a book, so that a word's kind says all that is needed.
-use Rattle.std.specs.Prelude.{ℕ, ◌+◌, ◌*◌, [], ◌∷◌, ◌++◌, replicate, take, Ok, Err, Result, slice_index_or, slice_set}
+use Rattle.std.specs.Prelude.{ℕ, ◌+◌, ◌*◌, [], ◌∷◌, ◌++◌, replicate, take, Ok, Err, Result, slice_index_or, slice_set, vec_capacity}
 use Rattle.refusal.specs.declared.Refusal.{Refusal}
+use Rattle.sitelayout.specs.declared.Head.{Head}
 use Rattle.sitelayout.specs.declared.kind.Kind.{Kind}
 use Rattle.sitelayout.specs.declared.kind.Kind.TheVariants as kinds
 use Rattle.sitelayout.specs.Kinds.{kind_of}
@@ -10,42 +11,46 @@ use Rattle.sitelayout.specs.Site.{Site}
 use Rattle.sitebook.specs.declared.store.Store.{Store}
 use Rattle.sitebook.specs.Tables.{site_of}
 
--- the book so far, a mask whose reward is due, and the place of the open cell
+-- the book so far, how many marks there is room for, a mask whose reward is due, and the place of the open cell
 pub record Held : Type 0 where
   pub book : Site
+  pub room : ℕ
   pub mask : ℕ
   pub at : ℕ
 
 abbrev pub held : Store → Held
-held s = record { book = site_of s.tables; mask = s.mask; at = s.at }
+held s = record { book = site_of s.tables; room = vec_capacity s.tables.marks; mask = s.mask; at = s.at }
 
--- no state, and n cells that offer nothing
-abbrev pub nothing : ℕ → Held
-nothing n = record { book = record { labels = 0; actions = 0; marks = []; cells = replicate n [] }; mask = 0; at = 0 }
+-- no state, room for those of the head, and cells that offer nothing for all of them
+abbrev pub nothing : Head → Held
+nothing h = record { book = record { labels = 0; actions = 0; marks = []; cells = replicate (h.states * h.actions) [] }; room = h.states; mask = 0; at = 0 }
 
 -- the head
 abbrev pub with_head : Held → ℕ → Held
-with_head h w = record { book = record { labels = (head_in w).labels; actions = (head_in w).actions; marks = h.book.marks; cells = h.book.cells }; mask = h.mask; at = h.at }
+with_head h w = record { book = record { labels = (head_in w).labels; actions = (head_in w).actions; marks = h.book.marks; cells = h.book.cells }; room = h.room; mask = h.mask; at = h.at }
 
 -- a mask, whose reward is due
 abbrev pub with_mask : Held → ℕ → Held
-with_mask h w = record { book = h.book; mask = mask_in w; at = h.at }
+with_mask h w = record { book = h.book; room = h.room; mask = mask_in w; at = h.at }
 
+-- a state more, where there is room
 abbrev pub with_mark : Held → ℕ → Held
 with_mark h w = record {
-  book = record { labels = h.book.labels; actions = h.book.actions; marks = h.book.marks ++ (record { mask = h.mask; worth = worth_in w } ∷ []); cells = h.book.cells };
+  book = record { labels = h.book.labels; actions = h.book.actions; marks = take h.room (h.book.marks ++ (record { mask = h.mask; worth = worth_in w } ∷ [])); cells = h.book.cells };
+  room = h.room;
   mask = h.mask;
   at = h.at;
 }
 
 -- an entry opens its cell
 abbrev pub with_entry : Held → ℕ → Held
-with_entry h w = record { book = h.book; mask = h.mask; at = (entry_in w).state * h.book.actions + (entry_in w).action }
+with_entry h w = record { book = h.book; room = h.room; mask = h.mask; at = (entry_in w).state * h.book.actions + (entry_in w).action }
 
 -- an outcome more in the open cell, which has at most eight
 abbrev pub with_move : Held → ℕ → Held
 with_move h w = record {
   book = record { labels = h.book.labels; actions = h.book.actions; marks = h.book.marks; cells = slice_set h.book.cells h.at (take 8 (slice_index_or h.book.cells h.at [] ++ (move_in w ∷ []))) };
+  room = h.room;
   mask = h.mask;
   at = h.at;
 }

@@ -1,5 +1,5 @@
-// The tables of a book while it is being stored, word by word.
-ghost use Rattle.std.specs.Prelude.{◌≡◌, ◌*◌, IfOk, OnOk};
+// The tables of a book while it is being stored, word by word. All that they need is allocated before the first word.
+ghost use Rattle.std.specs.Prelude.{◌≡◌, IfOk};
 ghost use Rattle.sitebook.specs.Storing.{held, nothing, put_of};
 
 use crate::tables::Tables;
@@ -19,7 +19,7 @@ pub struct Store {
 impl Store {
     // Nothing yet, with room for all of the book: nothing is offered.
     pub fn with_room(heap: Global, counts: Counts) -> Result<Store, AllocError>
-        ensures { IfOk result (λ s. held s ≡ nothing (counts.head.states * counts.head.actions)) }
+        ensures { IfOk result (λ s. held s ≡ nothing counts.head) }
     {
         let states = counts.head.states as usize;
         let count = states * counts.head.actions as usize;
@@ -38,8 +38,8 @@ impl Store {
     }
 
     // What the next word of the book says. An end word says nothing more, and no other kind comes in a book.
-    pub fn put(&mut self, word: u32) -> Result<(), AllocError>
-        ensures { OnOk result (held self.new ≡ put_of (held self.old) word) }
+    pub fn put(&mut self, word: u32)
+        ensures { held self.new ≡ put_of (held self.old) word }
     {
         match Kind::try_from(word) {
             Ok(Kind::Head) => {
@@ -48,10 +48,16 @@ impl Store {
                 self.tables.actions = head.actions;
             }
             Ok(Kind::Mask) => self.mask = mask_in(word),
-            Ok(Kind::Reward) => self.tables.marks.push(Mark {
-                mask: self.mask,
-                worth: worth_in(word),
-            })?,
+            Ok(Kind::Reward) => {
+                let mark = Mark {
+                    mask: self.mask,
+                    worth: worth_in(word),
+                };
+                // There is room: a mark for each state.
+                if self.tables.marks.len() < self.tables.marks.capacity() {
+                    self.tables.marks.push_reserved(mark);
+                }
+            }
             Ok(Kind::Entry) => {
                 let entry = entry_in(word);
                 let row = entry.state as usize * self.tables.actions as usize;
@@ -65,6 +71,5 @@ impl Store {
             }
             _ => {}
         }
-        Ok(())
     }
 }

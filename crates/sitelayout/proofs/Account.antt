@@ -1,7 +1,7 @@
 -- Whatever is accepted is the encoding of the site book that was read: the words read so far are those of the draft. For
--- others: `Good`, what is known of a draft; `word_kept`, that each word keeps it; `end_word_reads`, that only an end word ends;
+-- others: `word_kept`, that each word keeps what is known of a draft; `end_word_reads`, that only an end word ends;
 -- `whole_book_is` and `book_kept` of the book at the end; `marks-append`, `moves-append` and `cells-append` of words; `padded-length` and the like, and `either_way` of a test on two numbers.
-use Rattle.std.proofs.Common.{◌≡◌, ℕ, zero, suc, ◌+◌, ◌-◌, ◌*◌, ◌/◌, ◌%◌, ◌^◌, ◌<◌, ◌≤◌, Bool, true, false, cond, not, ◌&&◌, eqb, ltb, leb, List, [], ◌∷◌, ◌++◌, length, replicate, Some, None, Ok, Err, Option, Result, sym, refl, ap, ◌∙◌, subst, inl, inr, append_assoc, append-nil, zero-add, arith, rules, length-append}
+use Rattle.std.proofs.Common.{◌≡◌, ℕ, zero, suc, ◌+◌, ◌-◌, ◌*◌, ◌/◌, ◌%◌, ◌^◌, ◌≤◌, Bool, true, false, cond, not, ◌&&◌, eqb, ltb, leb, List, [], ◌∷◌, ◌++◌, length, replicate, Some, None, Ok, Err, Result, sym, refl, ap, ◌∙◌, subst, inl, inr, append_assoc, append-nil, zero-add, arith, rules, length-append}
 use lib.ListN.{length-replicate}
 use Rattle.std.proofs.lemmas.Nat.{div-mul-add, mod-mul-add, mul-add-lt}
 use Rattle.std.proofs.lemmas.List.{length_push}
@@ -19,39 +19,8 @@ use Rattle.sitelayout.specs.declared.Move.{Move}
 use Rattle.sitelayout.specs.declared.Worth.{Worth}
 use Rattle.sitelayout.specs.OneWord.{word_of_head, word_of_mask, word_of_reward, word_of_entry, word_of_move, head_of, mask_of, reward_of, entry_of, move_of}
 use Rattle.sitelayout.specs.Site.{Site, taken, apart, total, good_mark, good_move, good_cell, waits, valid}
-use Rattle.sitelayout.specs.Layout.{mark_words, move_words, cell_word, cell_words, site_words, Draft, fresh, marking, listing, moving, place_of, padded, marked, read_entry, moved, read_move, read_word, book_of, whole_book}
-use Rattle.sitelayout.proofs.OneWords.{GoodHead, head_reads, mask_reads, reward_reads, entry_reads, move_reads}
-
-abbrev head_words : Head → ℕ
-head_words h = word_of_head h.states h.labels h.actions
-
--- the entry word at place k
-abbrev open_word : Head → ℕ → ℕ → ℕ
-open_word h k n = word_of_entry (k / h.actions) (k % h.actions) n
-
--- the words that a draft was read from
-abbrev pub written : Draft → List ℕ
-written fresh = []
-written (marking h ms None) = head_words h ∷ mark_words ms
-written (marking h ms (Some m)) = head_words h ∷ (mark_words ms ++ (word_of_mask m ∷ []))
-written (listing h ms cs) = head_words h ∷ (mark_words ms ++ cell_words h.actions 0 cs)
-written (moving h ms cs mv due) = head_words h ∷ (mark_words ms ++ (cell_words h.actions 0 cs ++ (open_word h (length cs) (length mv + suc due) ∷ move_words mv)))
-
-abbrev GoodMask : ℕ → Option ℕ → Type 0
-GoodMask labels None = Unit {0}
-GoodMask labels (Some m) = m < 2 ^ labels
-
-abbrev GoodMarks : Head → List Mark → Type 0
-GoodMarks h ms = GoodHead h × (all (good_mark h.labels) ms ≡ true)
-
--- what is known of a draft
-abbrev pub Good : Draft → Type 0
-Good fresh = Unit {0}
-Good (marking h ms o) = GoodMarks h ms × ((length ms < h.states) × GoodMask h.labels o)
-Good (listing h ms cs) = GoodMarks h ms × ((length ms ≡ h.states) × ((all (good_cell h.states) cs ≡ true) × (length cs ≤ h.states * h.actions)))
-Good (moving h ms cs mv due) =
-    GoodMarks h ms × ((length ms ≡ h.states) × ((all (good_cell h.states) cs ≡ true) × ((length cs < h.states * h.actions)
-    × ((all (good_move h.states) mv ≡ true) × ((apart mv ≡ true) × (length mv + suc due ≤ 8))))))
+use Rattle.sitelayout.specs.Layout.{mark_words, move_words, cell_word, cell_words, site_words, Draft, fresh, marking, listing, moving, place_of, padded, marked, read_entry, moved, read_move, read_word, book_of, whole_book, GoodHead, head_words, open_word, written, Good, ends_offered}
+use Rattle.sitelayout.proofs.OneWords.{head_reads, mask_reads, reward_reads, entry_reads, move_reads}
 
 -- the words of one list and then another
 
@@ -130,7 +99,7 @@ mark_next h ms m w r g said =
       | inl t ↦ subst (λ b. Next (marking h ms (Some m)) w (cond b (marking h (ms ++ (record { mask = m; worth = r } ∷ [])) None) (listing h (ms ++ (record { mask = m; worth = r } ∷ [])) []))) (sym t)
           (((g.0.0, each), (ltb-true _ _ t, tt)), line)
       | inr t ↦ subst (λ b. Next (marking h ms (Some m)) w (cond b (marking h (ms ++ (record { mask = m; worth = r } ∷ [])) None) (listing h (ms ++ (record { mask = m; worth = r } ∷ [])) []))) (sym t)
-          (((g.0.0, each), (omega (arith, ltb-false _ _ t, g.1.0), (refl, omega arith))), ap (λ l. head_words h ∷ l) (append-nil (mark_words (ms ++ (record { mask = m; worth = r } ∷ [])))) ∙ line)
+          (((g.0.0, each), (omega (arith, ltb-false _ _ t, g.1.0), (refl, (omega arith, refl)))), ap (λ l. head_words h ∷ l) (append-nil (mark_words (ms ++ (record { mask = m; worth = r } ∷ [])))) ∙ line)
     ]
 
 entry_next : (h : Head) (ms : List Mark) (cs : List (List Move)) (w : ℕ) (e : Entry) → Good (listing h ms cs) → entry_of h.states h.actions w ≡ Ok e → length cs ≤ place_of h e
@@ -166,6 +135,11 @@ pub pushed_some : (mv : List Move) (m : Move) → none (mv ++ (m ∷ [])) ≡ fa
 pushed_some [] m = refl
 pushed_some (x ∷ mv) m = refl
 
+ends_offered-push : (cs : List (List Move)) (mv : List Move) (m : Move) → ends_offered (cs ++ ((mv ++ (m ∷ [])) ∷ [])) ≡ true
+ends_offered-push [] mv m = not_from_false (none (mv ++ (m ∷ []))) (pushed_some mv m)
+ends_offered-push (c ∷ []) mv m = not_from_false (none (mv ++ (m ∷ []))) (pushed_some mv m)
+ends_offered-push (c ∷ d ∷ cs) mv m = ends_offered-push (d ∷ cs) mv m
+
 -- the words of an open entry, and one more
 open_push : (h : Head) (ms : List Mark) (cs : List (List Move)) (mv : List Move) (due : ℕ) (v : ℕ) → written (moving h ms cs mv due) ++ (v ∷ []) ≡ head_words h ∷ (mark_words ms ++ (cell_words h.actions 0 cs ++ (open_word h (length cs) (length mv + suc due) ∷ (move_words mv ++ (v ∷ [])))))
 open_push h ms cs mv due v =
@@ -191,7 +165,7 @@ move_next h ms cs mv zero w m t g said free e =
     ∙ ap (λ l. cell_words h.actions 0 cs ++ l) (append-nil (cell_word h.actions (0 + length cs) (mv ++ (m ∷ []))) ∙ ap (λ k. cell_word h.actions k (mv ++ (m ∷ []))) (zero-add (length cs)) ∙ cell_word_push h.actions (length cs) mv m ∙ ap (λ v. open_word h (length cs) (length mv + 1) ∷ (move_words mv ++ (v ∷ []))) (sym told.0)))
     ∙ sym (open_push h ms cs mv zero w) in
     subst (Next (moving h ms cs mv zero) w) (same_more eight.1)
-    ((g.0, (g.1.0, (all_push (good_cell h.states) cs (mv ++ (m ∷ [])) g.1.1.0 cell, omega (arith, length_push cs (mv ++ (m ∷ [])), g.1.1.1.0)))), line)
+    ((g.0, (g.1.0, (all_push (good_cell h.states) cs (mv ++ (m ∷ [])) g.1.1.0 cell, (omega (arith, length_push cs (mv ++ (m ∷ [])), g.1.1.1.0), ends_offered-push cs mv m)))), line)
 move_next h ms cs mv (suc due) w m t g said free e =
     let told = move_reads h.states w m said in
     let one : good_move h.states m ≡ true = and_from (ltb m.target h.states) (within 1 8 m.weight) (lt-ltb m.target h.states told.1.0) (within_from 1 8 m.weight told.1.1 told.1.2) in
@@ -290,6 +264,6 @@ book_kept (moving h ms cs mv due) b g e = search rules
 book_kept (listing h ms cs) b g e =
     let told = whole_book_is h ms cs b e in
     subst (λ b. (valid b ≡ true) × (written (listing h ms cs) ≡ site_words b)) told.1 (
-      valid_from h ms cs g.0.0 g.1.0 g.0.1 g.1.1.0 g.1.1.1 told.0,
+      valid_from h ms cs g.0.0 g.1.0 g.0.1 g.1.1.0 g.1.1.1.0 told.0,
       sym (λ i. word_of_head (g.1.0 i) h.labels h.actions ∷ (mark_words ms ++ cell_words_padded h.actions (h.states * h.actions) cs i)),
     )

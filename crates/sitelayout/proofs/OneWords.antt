@@ -15,6 +15,7 @@ use Rattle.sitelayout.specs.declared.Worth.{Worth}
 use Rattle.sitelayout.specs.declared.kind.Kind.{Kind}
 use Rattle.sitelayout.specs.declared.kind.Kind.TheVariants as kinds
 use Rattle.sitelayout.specs.Kinds.{number_of}
+use Rattle.sitelayout.specs.Layout.{GoodHead}
 use Rattle.sitelayout.specs.OneWord.{said, word_of_head, word_of_mask, word_of_reward, word_of_entry, word_of_move, head_of, mask_of, reward_of, entry_of, move_of}
 
 -- a word that reads well has passed the three tests, and says what was read
@@ -32,9 +33,6 @@ said_is k n w ranges x y a b c e =
     ∙ require_passed (field w n (28 - n) == 0) UnusedBit _ (eq-eqb (field w n (28 - n)) 0 b)
     ∙ require_passed ranges OutOfRange (Ok x) c
     ∙ ap Ok e
-
-abbrev pub GoodHead : Head → Type 0
-GoodHead h = (1 ≤ h.states) × (h.states ≤ 4096) × (h.labels ≤ 24) × (1 ≤ h.actions) × (h.actions ≤ 8)
 
 abbrev pub GoodEntry : ℕ → ℕ → Entry → Type 0
 GoodEntry states actions e = (e.state < states) × (e.action < actions) × (1 ≤ e.outcomes) × (e.outcomes ≤ 8)

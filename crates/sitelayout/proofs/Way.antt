@@ -1,6 +1,6 @@
 -- Reading the encoding of a valid site book gives that book back: its words lead through the format. For others:
 -- `site_faithful`, the three laws of the layout.
-use Rattle.std.proofs.Common.{◌≡◌, ℕ, zero, suc, ◌+◌, ◌-◌, ◌*◌, ◌/◌, ◌%◌, ◌^◌, ◌<◌, ◌≤◌, true, false, cond, not, eqb, ltb, leb, List, [], ◌∷◌, ◌++◌, length, replicate, Some, None, Ok, sym, refl, ap, ◌∙◌, subst, append_assoc, append-nil, mod-lt, zero-add, arith, length-append, pow_mono}
+use Rattle.std.proofs.Common.{◌≡◌, ℕ, zero, suc, ◌+◌, ◌-◌, ◌*◌, ◌/◌, ◌%◌, ◌^◌, ◌<◌, ◌≤◌, true, false, cond, not, eqb, leb, List, [], ◌∷◌, ◌++◌, length, replicate, Some, None, Ok, sym, refl, ap, ◌∙◌, subst, append_assoc, append-nil, mod-lt, zero-add, arith, length-append, pow_mono}
 use Rattle.std.proofs.lemmas.Nat.{div-add-mod', div_below, mul-le}
 use Rattle.std.proofs.lemmas.List.{length_push, replicate_more}
 use Rattle.std.proofs.lemmas.Bool.{and_parts, or_parts, or_from, eqb-false, ne_eqb, eq-eqb, lt-ltb, le-ltb, le-leb, not-true, not_from_false}
@@ -12,15 +12,14 @@ use Rattle.words.proofs.Reading.{places_right}
 use Rattle.words.proofs.Encoding.{Passes, passes_append, reads_file, only_encodings}
 use Rattle.words.proofs.Fields.{kind_put}
 use Rattle.words.proofs.Tests.{check_passed}
-use Rattle.sitelayout.specs.declared.Entry.{Entry}
 use Rattle.sitelayout.specs.declared.Head.{Head}
 use Rattle.sitelayout.specs.declared.Mark.{Mark}
 use Rattle.sitelayout.specs.declared.Move.{Move}
 use Rattle.sitelayout.specs.OneWord.{word_of_head, word_of_mask, word_of_reward, word_of_entry, word_of_move, entry_of}
 use Rattle.sitelayout.specs.Site.{Site, taken, apart, total, good_mark, good_move, good_cell, waits, valid}
-use Rattle.sitelayout.specs.Layout.{mark_words, move_words, cell_word, cell_words, site_words, fresh, marking, listing, moving, padded, marked, read_entry, moved, read_move, read_word, book_of, whole_book, site_format}
-use Rattle.sitelayout.proofs.OneWords.{GoodHead, head_written, mask_written, reward_written, entry_written, move_written}
-use Rattle.sitelayout.proofs.Account.{Good, written, word_kept, end_word_reads, book_kept, choice}
+use Rattle.sitelayout.specs.Layout.{mark_words, move_words, cell_word, cell_words, site_words, fresh, marking, listing, moving, padded, marked, read_entry, moved, read_move, read_word, book_of, whole_book, site_format, GoodHead, head_words, open_word, written, Good}
+use Rattle.sitelayout.proofs.OneWords.{head_written, mask_written, reward_written, entry_written, move_written}
+use Rattle.sitelayout.proofs.Account.{word_kept, end_word_reads, book_kept, choice}
 use Rattle.sitelayout.proofs.Valid.{move_parts, mark_parts, cell_good, Validly, validly}
 
 -- in a list without repeats a target is not among those before it
@@ -71,91 +70,115 @@ module _ (h : Head) (g : GoodHead h) (ms : List Mark) where
         ),
       )
 
-  -- an entry that is offered leads to the end of its outcomes
-  way_cell : (k : ℕ) (cs : List (List Move)) (m : Move) (rest : List Move) → length cs ≤ k → k < h.states * h.actions → good_cell h.states (m ∷ rest) ≡ true
-      → Passes site_format (listing h ms cs) (cell_word h.actions k (m ∷ rest)) (listing h ms (padded k cs ++ ((m ∷ rest) ∷ [])))
+  -- some outcomes of an entry lead to more
+  pub moves_lead : (cs : List (List Move)) (before rest : List Move) (due : ℕ) → all (good_move h.states) rest ≡ true → apart (before ++ rest) ≡ true
+      → Passes site_format (moving h ms cs before (length rest + due)) (move_words rest) (moving h ms cs (before ++ rest) due)
+  moves_lead cs before [] due each one = λ i. moving h ms cs (sym (append-nil before) i) (zero-add due i)
+  moves_lead cs before (m ∷ rest) due each one =
+      let parts = and_parts (good_move h.states m) (all (good_move h.states) rest) each in
+      let same : (before ++ (m ∷ [])) ++ rest ≡ before ++ (m ∷ rest) = append_assoc before (m ∷ []) rest in
+      let more_due : length (m ∷ rest) + due ≡ suc (length rest + due) = omega arith in (
+        moving h ms cs (before ++ (m ∷ [])) (length rest + due),
+        (
+          ap (λ n. read_word (moving h ms cs before n) (word_of_move m)) more_due ∙ move_step cs before (suc (length rest + due)) m parts.0 (free_before before m rest one),
+          (
+            move_low m parts.0,
+            subst (λ l. Passes site_format (moving h ms cs (before ++ (m ∷ [])) (length rest + due)) (move_words rest) (moving h ms cs l due)) same
+                (moves_lead cs (before ++ (m ∷ [])) rest due parts.1 (ap apart same ∙ one)),
+          ),
+        ),
+      )
+
+  -- the word of an entry opens its cell
+  pub entry_step : (k : ℕ) (cs : List (List Move)) (n : ℕ) → length cs ≤ k → k < h.states * h.actions → 1 ≤ n → n ≤ 8 → (read_word (listing h ms cs) (open_word h k n) ≡ more (moving h ms (padded k cs) [] (n - 1))) × (open_word h k n < 2 ^ 32)
   unfolding read_word
-  way_cell k cs m rest behind inside cell =
-      let good = cell_good h.states (m ∷ rest) cell in
-      let few = good.few in
+  entry_step k cs n behind inside some few =
       let acts : 0 < h.actions = g.3 in
       let col : k % h.actions < h.actions = mod-lt k acts in
       let row : k / h.actions < h.states = div_below k h.actions h.states acts inside in
       let whole : k / h.actions * h.actions + k % h.actions ≡ k = div-add-mod' k h.actions in
-      let entry : Entry = record { state = k / h.actions; action = k % h.actions; outcomes = length (m ∷ rest) } in
-      let said = entry_written h.states h.actions (k / h.actions) (k % h.actions) (length (m ∷ rest)) g.1 g.4 (row, col, omega arith, few) in
-      let word : ℕ = word_of_entry (k / h.actions) (k % h.actions) (length (m ∷ rest)) in
-      let kd : kind (word_of_entry (k / h.actions) (k % h.actions) (length (m ∷ rest))) ≡ 4 = kind_put (k / h.actions + k % h.actions * 2 ^ 12 + length (m ∷ rest) * 2 ^ 15) 4 (omega (arith, row, col, few, g.1, g.4)) in
-      let other : eqb (kind (word_of_entry (k / h.actions) (k % h.actions) (length (m ∷ rest)))) 15 ≡ false = ne_eqb (kind (word_of_entry (k / h.actions) (k % h.actions) (length (m ∷ rest)))) 15 (λ e. omega (arith, kd, e)) in
-      let due : length (m ∷ rest) - 1 ≡ length rest = omega arith in (
-        moving h ms (padded k cs) [] (length rest),
-        (
-          ap (λ t. cond t ends (onto (entry_of h.states h.actions (word_of_entry (k / h.actions) (k % h.actions) (length (m ∷ rest)))) (read_entry h ms cs))) other
-              ∙ ap (λ s. onto s (read_entry h ms cs)) said
-              ∙ check_passed (leb (length cs) (k / h.actions * h.actions + k % h.actions)) NotRising (more (moving h ms (padded (k / h.actions * h.actions + k % h.actions) cs) [] (length (m ∷ rest) - 1))) (le-leb (length cs) (k / h.actions * h.actions + k % h.actions) (omega (arith, whole, behind)))
-              ∙ (λ i. more (moving h ms (padded (whole i) cs) [] (due i))),
-          (omega (arith, row, col, few, g.1, g.4), way_moves (padded k cs) [] m rest good.moves good.distinct (good.whole refl)),
-        ),
+      let said = entry_written h.states h.actions (k / h.actions) (k % h.actions) n g.1 g.4 (row, col, some, few) in
+      let kd : kind (word_of_entry (k / h.actions) (k % h.actions) n) ≡ 4 = kind_put (k / h.actions + k % h.actions * 2 ^ 12 + n * 2 ^ 15) 4 (omega (arith, row, col, few, g.1, g.4)) in
+      let other : eqb (kind (word_of_entry (k / h.actions) (k % h.actions) n)) 15 ≡ false = ne_eqb (kind (word_of_entry (k / h.actions) (k % h.actions) n)) 15 (λ e. omega (arith, kd, e)) in (
+        ap (λ t. cond t ends (onto (entry_of h.states h.actions (word_of_entry (k / h.actions) (k % h.actions) n)) (read_entry h ms cs))) other
+            ∙ ap (λ s. onto s (read_entry h ms cs)) said
+            ∙ check_passed (leb (length cs) (k / h.actions * h.actions + k % h.actions)) NotRising (more (moving h ms (padded (k / h.actions * h.actions + k % h.actions) cs) [] (n - 1))) (le-leb (length cs) (k / h.actions * h.actions + k % h.actions) (omega (arith, whole, behind)))
+            ∙ (λ i. more (moving h ms (padded (whole i) cs) [] (n - 1))),
+        omega (arith, row, col, few, g.1, g.4),
       )
 
+  -- an entry that is offered leads to the end of its outcomes
+  way_cell : (k : ℕ) (cs : List (List Move)) (m : Move) (rest : List Move) → length cs ≤ k → k < h.states * h.actions → good_cell h.states (m ∷ rest) ≡ true
+      → Passes site_format (listing h ms cs) (cell_word h.actions k (m ∷ rest)) (listing h ms (padded k cs ++ ((m ∷ rest) ∷ [])))
+  way_cell k cs m rest behind inside cell =
+      let good = cell_good h.states (m ∷ rest) cell in
+      let opens = entry_step k cs (length (m ∷ rest)) behind inside (omega arith) good.few in
+      let due : length (m ∷ rest) - 1 ≡ length rest = omega arith in (
+        moving h ms (padded k cs) [] (length rest),
+        (opens.0 ∙ ap (λ n. more (moving h ms (padded k cs) [] n)) due, (opens.1, way_moves (padded k cs) [] m rest good.moves good.distinct (good.whole refl))),
+      )
+
+head_step : (h : Head) → GoodHead h → read_word fresh (word_of_head h.states h.labels h.actions) ≡ more (marking h [] None)
+unfolding read_word
+head_step h g = ap (λ s. onto s (λ x. more (marking x [] None))) (head_written h.states h.labels h.actions g)
+
 module _ (h : Head) (g : GoodHead h) where
-  mask_step : (before : List Mark) (m : Mark) → good_mark h.labels m ≡ true → read_word (marking h before None) (word_of_mask m.mask) ≡ more (marking h before (Some m.mask))
+  pub mask_step : (before : List Mark) (m : ℕ) → m < 2 ^ h.labels → read_word (marking h before None) (word_of_mask m) ≡ more (marking h before (Some m))
   unfolding read_word
-  mask_step before m e = ap (λ s. onto s (λ x. more (marking h before (Some x)))) (mask_written h.labels m.mask (mark_parts h.labels m e).0 g.2)
+  mask_step before m low = ap (λ s. onto s (λ x. more (marking h before (Some x)))) (mask_written h.labels m low g.2)
 
   reward_step : (before : List Mark) (m : Mark) → good_mark h.labels m ≡ true → read_word (marking h before (Some m.mask)) (word_of_reward m.worth.raised m.worth.origin) ≡ more (marked h (before ++ (m ∷ [])))
   unfolding read_word
   reward_step before m e =
       ap (λ s. onto s (λ r. more (marked h (before ++ (record { mask = m.mask; worth = r } ∷ []))))) (reward_written m.worth.raised m.worth.origin (mark_parts h.labels m e).1 (mark_parts h.labels m e).2)
 
-  -- the states of a book lead to its entries
-  way_marks : (before : List Mark) (m : Mark) (rest : List Mark) → all (good_mark h.labels) (m ∷ rest) ≡ true → length before + length (m ∷ rest) ≡ h.states
-      → Passes site_format (marking h before None) (mark_words (m ∷ rest)) (listing h (before ++ (m ∷ rest)) [])
-  way_marks before m [] each long =
-      let one = (and_parts (good_mark h.labels m) true each).0 in
-      let is = mark_parts h.labels m one in
-      let top : 2 ^ h.labels ≤ 2 ^ 24 = pow_mono g.2 in
-      let all_read : ltb (length (before ++ (m ∷ []))) h.states ≡ false = le-ltb (length (before ++ (m ∷ []))) h.states (omega (arith, length_push before m)) in (
-        marking h before (Some m.mask),
-        (
-          mask_step before m one,
-          (
-            omega (arith, is.0, top),
-            (
-              listing h (before ++ (m ∷ [])) [],
-              (
-                reward_step before m one ∙ ap (λ b. more (cond b (marking h (before ++ (m ∷ [])) None) (listing h (before ++ (m ∷ [])) []))) all_read,
-                (omega (arith, is.1, is.2), refl),
-              ),
-            ),
-          ),
-        ),
-      )
-  way_marks before m (r ∷ rest) each long =
-      let parts = and_parts (good_mark h.labels m) (all (good_mark h.labels) (r ∷ rest)) each in
+  pub marked_more : (ms : List Mark) → length ms < h.states → marked h ms ≡ marking h ms None
+  marked_more ms few = ap (λ b. cond b (marking h ms None) (listing h ms [])) (lt-ltb (length ms) h.states few)
+
+  pub marked_all : (ms : List Mark) → length ms ≡ h.states → marked h ms ≡ listing h ms []
+  marked_all ms all_read = ap (λ b. cond b (marking h ms None) (listing h ms [])) (le-ltb (length ms) h.states (omega arith))
+
+  -- some states lead to more, and the last to the entries
+  way_marks : (before rest : List Mark) → all (good_mark h.labels) rest ≡ true → length before + length rest ≤ h.states → Passes site_format (marked h before) (mark_words rest) (marked h (before ++ rest))
+  way_marks before [] each few = ap (marked h) (sym (append-nil before))
+  way_marks before (m ∷ rest) each few =
+      let parts = and_parts (good_mark h.labels m) (all (good_mark h.labels) rest) each in
       let is = mark_parts h.labels m parts.0 in
       let top : 2 ^ h.labels ≤ 2 ^ 24 = pow_mono g.2 in
-      let same : (before ++ (m ∷ [])) ++ (r ∷ rest) ≡ before ++ (m ∷ (r ∷ rest)) = append_assoc before (m ∷ []) (r ∷ rest) in
-      let some_left : ltb (length (before ++ (m ∷ []))) h.states ≡ true = lt-ltb (length (before ++ (m ∷ []))) h.states (omega (arith, length_push before m)) in (
+      let same : (before ++ (m ∷ [])) ++ rest ≡ before ++ (m ∷ rest) = append_assoc before (m ∷ []) rest in
+      let due : marked h before ≡ marking h before None = marked_more before (omega arith) in
+      subst (λ d. Passes site_format d (mark_words (m ∷ rest)) (marked h (before ++ (m ∷ rest)))) (sym due) (
         marking h before (Some m.mask),
         (
-          mask_step before m parts.0,
+          mask_step before m.mask is.0,
           (
             omega (arith, is.0, top),
             (
-              marking h (before ++ (m ∷ [])) None,
+              marked h (before ++ (m ∷ [])),
               (
-                reward_step before m parts.0 ∙ ap (λ b. more (cond b (marking h (before ++ (m ∷ [])) None) (listing h (before ++ (m ∷ [])) []))) some_left,
+                reward_step before m parts.0,
                 (
                   omega (arith, is.1, is.2),
-                  subst (λ l. Passes site_format (marking h (before ++ (m ∷ [])) None) (mark_words (r ∷ rest)) (listing h l [])) same
-                      (way_marks (before ++ (m ∷ [])) r rest parts.1 (omega (arith, length_push before m))),
+                  subst (λ l. Passes site_format (marked h (before ++ (m ∷ []))) (mark_words rest) (marked h l)) same (way_marks (before ++ (m ∷ [])) rest parts.1 (omega (arith, length_push before m))),
                 ),
               ),
             ),
           ),
         ),
       )
+
+  -- the head and some states lead to what is due after them
+  pub states_lead : (ms : List Mark) → all (good_mark h.labels) ms ≡ true → length ms ≤ h.states → Passes site_format fresh (head_words h ∷ mark_words ms) (marked h ms)
+  states_lead ms each few = (
+    marking h [] None,
+    (
+      head_step h g,
+      (
+        omega (arith, g.1, g.2, g.4),
+        subst (λ d. Passes site_format d (mark_words ms) (marked h ms)) (marked_more [] g.0) (way_marks [] ms each (omega arith)),
+      ),
+    ),
+  )
 
 pad_push : (n : ℕ) (cs : List (List Move)) → length cs ≤ n → padded (n + 1) cs ≡ padded n cs ++ ([] ∷ [])
 pad_push n cs h =
@@ -169,10 +192,10 @@ pad_full n cs h =
 
 module _ (h : Head) (g : GoodHead h) (ms : List Mark) where
   -- the entries of a book, from place k on, lead to a table that is the whole one when it is filled up
-  abbrev CellsLead : ℕ → List (List Move) → List (List Move) → List (List Move) → Type 0
+  abbrev pub CellsLead : ℕ → List (List Move) → List (List Move) → List (List Move) → Type 0
   CellsLead k cs rest whole = (fs : List (List Move)) × (Passes site_format (listing h ms cs) (cell_words h.actions k rest) (listing h ms fs) × ((length fs ≤ length whole) × (padded (length whole) fs ≡ whole)))
 
-  way_cells : (k : ℕ) (done cs rest whole : List (List Move)) → k ≡ length done → done ++ rest ≡ whole → padded k cs ≡ done → length cs ≤ k → all (good_cell h.states) rest ≡ true → length whole ≤ h.states * h.actions → CellsLead k cs rest whole
+  pub way_cells : (k : ℕ) (done cs rest whole : List (List Move)) → k ≡ length done → done ++ rest ≡ whole → padded k cs ≡ done → length cs ≤ k → all (good_cell h.states) rest ≡ true → length whole ≤ h.states * h.actions → CellsLead k cs rest whole
   way_cells k done cs [] whole at join full behind each few =
       let same : k ≡ length whole = at ∙ ap length (sym (append-nil done) ∙ join) in
       (cs, (refl, (omega arith, ap (λ n. padded n cs) (sym same) ∙ full ∙ sym (append-nil done) ∙ join)))
@@ -214,10 +237,6 @@ unfolding read_word
 end_step h ms cs n low =
     ap (λ t. cond t ends (onto (entry_of h.states h.actions (end_word n)) (read_entry h ms cs))) (eq-eqb (kind (end_word n)) 15 (kind_put n 15 low))
 
-head_step : (h : Head) → GoodHead h → read_word fresh (word_of_head h.states h.labels h.actions) ≡ more (marking h [] None)
-unfolding read_word
-head_step h g = ap (λ s. onto s (λ x. more (marking x [] None))) (head_written h.states h.labels h.actions g)
-
 book_step : (h : Head) (ms : List Mark) (cs : List (List Move)) (b : Site) → book_of h ms cs ≡ b → waits h.actions h.states (padded (h.states * h.actions) cs) ≡ true → whole_book (listing h ms cs) ≡ Ok b
 unfolding whole_book
 book_step h ms cs b same w = ap (λ t. choice t (book_of h ms cs)) w ∙ ap Ok same
@@ -228,22 +247,16 @@ reads_back_from : (labels actions : ℕ) (m : Mark) (rest : List Mark) (cells : 
 reads_back_from labels actions m rest cells v =
     let h : Head = record { states = length (m ∷ rest); labels = labels; actions = actions } in
     let g : GoodHead (record { states = length (m ∷ rest); labels = labels; actions = actions }) = (v.some, v.many, v.labels, v.acts, v.few) in
-    let marks = way_marks (record { states = length (m ∷ rest); labels = labels; actions = actions }) g [] m rest v.marks (zero-add (length (m ∷ rest))) in
+    let states = states_lead (record { states = length (m ∷ rest); labels = labels; actions = actions }) g (m ∷ rest) v.marks (omega arith) in
+    let marks : Passes site_format fresh (head_words (record { states = length (m ∷ rest); labels = labels; actions = actions }) ∷ mark_words (m ∷ rest)) (listing (record { states = length (m ∷ rest); labels = labels; actions = actions }) (m ∷ rest) []) =
+    subst (Passes site_format fresh (head_words (record { states = length (m ∷ rest); labels = labels; actions = actions }) ∷ mark_words (m ∷ rest))) (marked_all (record { states = length (m ∷ rest); labels = labels; actions = actions }) g (m ∷ rest) refl) states in
     let table = way_cells (record { states = length (m ∷ rest); labels = labels; actions = actions }) g (m ∷ rest) 0 [] [] cells cells refl refl refl (omega arith) v.cells (omega (arith, v.table)) in
     let full : padded (length (m ∷ rest) * actions) table.0 ≡ cells = ap (λ n. padded n table.0) (sym v.table) ∙ table.1.1.1 in
     let small : length (m ∷ rest) * actions ≤ 4096 * 8 = mul-le (length (m ∷ rest)) actions 4096 8 v.many v.few in
     let size : length (site_words (record { labels = labels; actions = actions; marks = m ∷ rest; cells = cells })) < 2 ^ 28 =
     omega (arith, length-append (mark_words (m ∷ rest)) (cell_words actions 0 cells), length-marks (m ∷ rest), length-cells (length (m ∷ rest)) actions 0 cells v.cells, v.table, small, v.many) in
-    let way : Passes site_format fresh (site_words (record { labels = labels; actions = actions; marks = m ∷ rest; cells = cells })) (listing (record { states = length (m ∷ rest); labels = labels; actions = actions }) (m ∷ rest) table.0) = (
-      marking (record { states = length (m ∷ rest); labels = labels; actions = actions }) [] None,
-      (
-        head_step (record { states = length (m ∷ rest); labels = labels; actions = actions }) g,
-        (
-          omega (arith, v.many, v.labels, v.few),
-          passes_append site_format (mark_words (m ∷ rest)) (cell_words actions 0 cells) (marking (record { states = length (m ∷ rest); labels = labels; actions = actions }) [] None) (listing (record { states = length (m ∷ rest); labels = labels; actions = actions }) (m ∷ rest) []) (listing (record { states = length (m ∷ rest); labels = labels; actions = actions }) (m ∷ rest) table.0) marks table.1.0,
-        ),
-      ),
-    ) in
+    let way : Passes site_format fresh (site_words (record { labels = labels; actions = actions; marks = m ∷ rest; cells = cells })) (listing (record { states = length (m ∷ rest); labels = labels; actions = actions }) (m ∷ rest) table.0) =
+    passes_append site_format (head_words (record { states = length (m ∷ rest); labels = labels; actions = actions }) ∷ mark_words (m ∷ rest)) (cell_words actions 0 cells) fresh (listing (record { states = length (m ∷ rest); labels = labels; actions = actions }) (m ∷ rest) []) (listing (record { states = length (m ∷ rest); labels = labels; actions = actions }) (m ∷ rest) table.0) marks table.1.0 in
     reads_file site_format (site_words (record { labels = labels; actions = actions; marks = m ∷ rest; cells = cells })) (listing (record { states = length (m ∷ rest); labels = labels; actions = actions }) (m ∷ rest) table.0) (record { labels = labels; actions = actions; marks = m ∷ rest; cells = cells })
     way size (end_step (record { states = length (m ∷ rest); labels = labels; actions = actions }) (m ∷ rest) table.0 (length (site_words (record { labels = labels; actions = actions; marks = m ∷ rest; cells = cells }))) size)
     (book_step (record { states = length (m ∷ rest); labels = labels; actions = actions }) (m ∷ rest) table.0 (record { labels = labels; actions = actions; marks = m ∷ rest; cells = cells }) (λ i. record { labels = labels; actions = actions; marks = m ∷ rest; cells = full i })

@@ -1,10 +1,11 @@
 -- How a site book is written in words, and how it is read: head, two words for each state, the entries in rising order of
 -- state and action, each with its outcomes, and the end word.
-use Rattle.std.specs.Prelude.{ℕ, zero, suc, ◌+◌, ◌-◌, ◌*◌, ◌/◌, ◌%◌, cond, not, List, [], ◌∷◌, ◌++◌, length, replicate, Some, None, Ok, Err, Option, Result, ◌==◌, nat_le, nat_lt}
+use Rattle.std.specs.Prelude.{◌≡◌, ℕ, zero, suc, ◌+◌, ◌-◌, ◌*◌, ◌/◌, ◌%◌, ◌^◌, ◌<◌, ◌≤◌, Bool, true, cond, not, List, [], ◌∷◌, ◌++◌, length, replicate, Some, None, Ok, Err, Option, Result, ◌==◌, nat_le, nat_lt}
 use Rattle.refusal.specs.declared.Refusal.{Refusal}
 use Rattle.refusal.specs.declared.Refusal.TheVariants.{WrongKind, WrongTotal, NotRising, NoWait}
 use Rattle.words.specs.Words.{kind}
 use Rattle.words.specs.Format.{Step, more, ends, check, onto, Format}
+use Rattle.words.specs.Tests.{all, none}
 use Rattle.sitelayout.specs.declared.Entry.{Entry}
 use Rattle.sitelayout.specs.declared.Head.{Head}
 use Rattle.sitelayout.specs.declared.Mark.{Mark}
@@ -12,7 +13,7 @@ use Rattle.sitelayout.specs.declared.Move.{Move}
 use Rattle.sitelayout.specs.declared.kind.Kind.TheVariants.{End}
 use Rattle.sitelayout.specs.Kinds.{number_of}
 use Rattle.sitelayout.specs.OneWord.{word_of_head, word_of_mask, word_of_reward, word_of_entry, word_of_move, head_of, mask_of, reward_of, entry_of, move_of}
-use Rattle.sitelayout.specs.Site.{Site, taken, total, waits}
+use Rattle.sitelayout.specs.Site.{Site, taken, apart, total, good_mark, good_move, good_cell, waits}
 
 -- writing
 
@@ -90,3 +91,46 @@ whole_book (moving h ms cs mv due) = Err WrongKind
 
 abbrev pub site_format : Format Draft Site
 site_format = record { start = fresh; step = read_word; finish = whole_book }
+
+-- what has been said so far
+
+abbrev pub head_words : Head → ℕ
+head_words h = word_of_head h.states h.labels h.actions
+
+-- the entry word at place k
+abbrev pub open_word : Head → ℕ → ℕ → ℕ
+open_word h k n = word_of_entry (k / h.actions) (k % h.actions) n
+
+-- the words that a draft was read from
+abbrev pub written : Draft → List ℕ
+written fresh = []
+written (marking h ms None) = head_words h ∷ mark_words ms
+written (marking h ms (Some m)) = head_words h ∷ (mark_words ms ++ (word_of_mask m ∷ []))
+written (listing h ms cs) = head_words h ∷ (mark_words ms ++ cell_words h.actions 0 cs)
+written (moving h ms cs mv due) = head_words h ∷ (mark_words ms ++ (cell_words h.actions 0 cs ++ (open_word h (length cs) (length mv + suc due) ∷ move_words mv)))
+
+abbrev pub GoodHead : Head → Type 0
+GoodHead h = (1 ≤ h.states) × (h.states ≤ 4096) × (h.labels ≤ 24) × (1 ≤ h.actions) × (h.actions ≤ 8)
+
+abbrev pub GoodMask : ℕ → Option ℕ → Type 0
+GoodMask labels None = Unit {0}
+GoodMask labels (Some m) = m < 2 ^ labels
+
+abbrev pub GoodMarks : Head → List Mark → Type 0
+GoodMarks h ms = GoodHead h × (all (good_mark h.labels) ms ≡ true)
+
+-- the last of the cells, if there is any, is that of an entry
+abbrev pub ends_offered : List (List Move) → Bool
+ends_offered [] = true
+ends_offered (c ∷ []) = not (none c)
+ends_offered (c ∷ d ∷ cs) = ends_offered (d ∷ cs)
+
+-- what is known of a draft: the head, the states, the entries and the outcomes that it has are good ones, and there is room for what is due
+abbrev pub Good : Draft → Type 0
+Good fresh = Unit {0}
+Good (marking h ms o) = GoodMarks h ms × ((length ms < h.states) × GoodMask h.labels o)
+Good (listing h ms cs) =
+    GoodMarks h ms × ((length ms ≡ h.states) × ((all (good_cell h.states) cs ≡ true) × ((length cs ≤ h.states * h.actions) × (ends_offered cs ≡ true))))
+Good (moving h ms cs mv due) =
+    GoodMarks h ms × ((length ms ≡ h.states) × ((all (good_cell h.states) cs ≡ true) × ((length cs < h.states * h.actions)
+    × ((all (good_move h.states) mv ≡ true) × ((apart mv ≡ true) × (length mv + suc due ≤ 8))))))

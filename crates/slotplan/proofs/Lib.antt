@@ -1,4 +1,3 @@
-mod Advising
 mod Holding
 mod Planning
-mod Powers
+mod Printing

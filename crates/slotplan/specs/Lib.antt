@@ -1,3 +1,4 @@
-pub mod Advice
 pub mod Planning
 pub mod Writing
+pub mod Figures
+pub mod Telling

@@ -3,11 +3,13 @@
 #![tactic(auto)]
 
 mod figures;
-mod made;
+mod making;
+mod telling;
 mod written;
 
 pub use figures::Figure;
-pub use made::{Plan, Room, SLOTS, plan_by};
+pub use making::{Room, SLOTS, plan_by};
+pub use telling::figure_of;
 pub use written::{Book, STATES, WORDS, written_out};
 
 // How a plan weighs the outcomes of a choice: by their chances, or by the worst of them.

@@ -1,5 +1,5 @@
 -- A walk on a model that unfolds a ground model agrees with the reckoner over it, under every table of discounts and through every list
--- of numbers: the walk always stands where the reckoner's record leads, in the slot of its end and with its total.
+-- of numbers: the walk always stands where the reckoner's record leads, in the slot of its end and with its total. For others: `agrees_over_all`, `beside_over_all`.
 use Rattle.std.proofs.Common.{◌≡◌, ℕ, zero, suc, ◌+◌, ◌-◌, ◌<◌, Bool, true, false, cond, List, [], ◌∷◌, ◌++◌, length, ℤ, pos, ◌+ℤ◌, ◌*ℤ◌, Option, Some, None, sym, refl, ap, ◌∙◌, subst, nat_lt, arith}
 use Rattle.std.specs.List.{ContainsAt as Has, slice_get}
 use Rattle.std.specs.Option.{option_map}
@@ -12,8 +12,8 @@ use Rattle.model.specs.Histories.{final, targets_of, History, begun as first, on
 use Rattle.model.specs.Models.{Model}
 use Rattle.model.proofs.Paths.{some_history}
 use Rattle.refusal.specs.declared.Refusal.TheVariants.{NotOffered, LastSlot}
-use Rattle.walk.specs.Walker.{Stand, Walk, standing, choosing, Turn, goes, refuses, begun, choice, arrived, told, telling, turn, walk_has, run}
-use Rattle.walk.specs.Reckoner.{Reckoner, reckon_choice, reckon_outcome, reckon_by, sum_below, counted_at, total_of, reckoner_has, reckon_run, Agree, AgreesOverAll}
+use Rattle.walk.specs.Walker.{Stand, Walk, standing, choosing, Turn, goes, refuses, begun, choice, arrived, chosen_in, told, telling, turn, walk_has, reached, run, stands_at}
+use Rattle.walk.specs.Reckoner.{Reckoner, begins, reckon_choice, reckon_outcome, reckon_by, reckoned_after, sum_below, counted_at, total_of, reckoner_has, reckon_run, Agree, AgreesOverAll, BesideOverAll, StaysBeside}
 use Rattle.weighing.specs.Discounts.{discount_of}
 
 -- the last slot is that of thirteen states
@@ -113,6 +113,38 @@ module _ (d : ℕ → ℕ) (g m : Model) (code mask : List ℕ → ℕ) (reward 
       let total : pos (d 0) *ℤ m.reward m.start ≡ pos 0 +ℤ (pos (d 0) *ℤ reward (g.start ∷ [])) = ap (λ r. pos (d 0) *ℤ r) earned ∙ omega (arith, ints) in
       λ i. standing (record { state = sym u.first i; slot = 0; total = total i })
 
+  -- after further numbers the walk stands where the record then leads
+  beside_after : (ns : List ℕ) (h : List ℕ) (c : Option ℕ) → History g h → Offered h c
+      → (reached d m (walk_at h c) ns ≡ walk_at (reckoned_after g (record { history = h; chosen = c }) ns).history (reckoned_after g (record { history = h; chosen = c }) ns).chosen)
+      × History g (reckoned_after g (record { history = h; chosen = c }) ns).history
+  unfolding reached reckoned_after
+  beside_after [] h c hist off = (refl, hist)
+  beside_after (n ∷ ns) h c hist off =
+      let t = turns_together h c hist off n in
+      let r : Reckoner = (reckon_by g h c n).next in
+      let later = beside_after ns r.history r.chosen t.history t.offered in
+      (ap (λ w. reached d m w ns) t.there ∙ later.0, later.1)
+
+  stands_there : (h : List ℕ) (c : Option ℕ) → stands_at (walk_at h c) ≡ code h
+  stands_there h None = refl
+  stands_there h (Some a) = refl
+
+  chosen_there : (h : List ℕ) (c : Option ℕ) → chosen_in (walk_at h c) ≡ c
+  chosen_there h None = refl
+  chosen_there h (Some a) = refl
+
+  pub walk_beside : StaysBeside d g m code reward
+  walk_beside ns =
+      let r : Reckoner = reckoned_after g (begins g) ns in
+      let after = beside_after ns (g.start ∷ []) None first tt in
+      let there : reached d m (begun d m) ns ≡ walk_at r.history r.chosen = ap (λ w. reached d m w ns) begins_there ∙ after.0 in
+      record {
+        led = after.1;
+        stands = ap stands_at there ∙ stands_there r.history r.chosen;
+        chosen = ap chosen_in there ∙ chosen_there r.history r.chosen;
+        has = ap (walk_has m) there ∙ has_same r.history r.chosen after.1;
+      }
+
   pub walk_agrees : Agree d g m reward
   walk_agrees = record {
     opening = ap (walk_has m) begins_there ∙ has_same (g.start ∷ []) None first;
@@ -121,3 +153,6 @@ module _ (d : ℕ → ℕ) (g m : Model) (code mask : List ℕ → ℕ) (reward 
 
 pub agrees_over_all : (m : Model) → AgreesOverAll m
 agrees_over_all m = λ g code mask reward u. walk_agrees discount_of g m code mask reward u
+
+pub beside_over_all : (m : Model) → BesideOverAll m
+beside_over_all m = λ g code mask reward u. walk_beside discount_of g m code mask reward u

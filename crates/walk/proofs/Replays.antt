@@ -1,7 +1,7 @@
 -- A run of numbers grows by one step with each number, so a table that is filled step by step holds the run.
 use Rattle.std.proofs.Common.{◌≡◌, ℕ, suc, ◌+◌, ◌<◌, ◌≤◌, min, List, [], ◌∷◌, ◌++◌, length, take, drop, get_or, set, sym, refl, ap, ◌∙◌, append_assoc, add-one, drop-cons, arith}
 use Rattle.std.proofs.Math.Seq.{set-append_seam}
-use Rattle.std.proofs.lemmas.List.{take_all, take_more, length-take, take_min, drop_min}
+use Rattle.std.proofs.lemmas.List.{take_all, take_more, take-append-drop, length-take, take_min, drop_min}
 use Rattle.model.specs.Models.{Model}
 use Rattle.walk.specs.declared.Step.{Step}
 use Rattle.walk.specs.Walker.{Walk, Turn, begun, turn, step, run, reached}
@@ -16,6 +16,26 @@ module _ (d : ℕ → ℕ) (m : Model) where
   unfolding reached
   reached-push w [] n = refl
   reached-push w (x ∷ ns) n = reached-push (turn d m w x).next ns n
+
+  pub reached-none : (w : Walk) → reached d m w [] ≡ w
+  unfolding reached
+  reached-none w = refl
+
+  pub reached-append : (w : Walk) (ns more : List ℕ) → reached d m (reached d m w ns) more ≡ reached d m w (ns ++ more)
+  unfolding reached
+  reached-append w [] more = refl
+  reached-append w (n ∷ ns) more = reached-append (turn d m w n).next ns more
+
+  -- one number more of a list that is gone through
+  pub reached_more : (w v : Walk) (given : List ℕ) (i : ℕ) → v ≡ reached d m w (take i given) → i < length given → (t : Turn Walk) → t ≡ turn d m v (get_or given i 0) → t.next ≡ reached d m w (take (i + 1) given)
+  reached_more w v given i so_far inside t turned =
+      ap (λ x. x.next) (turned ∙ ap (λ x. turn d m x (get_or given i 0)) so_far) ∙ sym (reached-push w (take i given) (get_or given i 0)) ∙ ap (reached d m w) (sym (take_more given i 0 inside))
+
+  -- the numbers that a table has room for, and then the others
+  pub reached_in_parts : (w : Walk) (numbers : List ℕ) (room n : ℕ) → n ≡ min (length numbers) room → reached d m (reached d m w (take room numbers)) (drop n numbers) ≡ reached d m w numbers
+  reached_in_parts w numbers room n size =
+      let same : take room numbers ≡ take n numbers = sym (take_min room numbers) ∙ ap (λ k. take k numbers) (omega arith) in
+      ap (λ l. reached d m (reached d m w l) (drop n numbers)) same ∙ reached-append w (take n numbers) (drop n numbers) ∙ ap (reached d m w) (take-append-drop n numbers)
 
   length-run : (w : Walk) (ns : List ℕ) → length (run d m w ns) ≡ length ns
   unfolding run

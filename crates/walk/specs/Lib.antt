@@ -1,3 +1,4 @@
 pub mod Walker
 pub mod Reckoner
 pub mod Views
+pub mod Courses

@@ -3,12 +3,12 @@
 use Rattle.std.specs.Prelude.{◌≡◌, ℕ, zero, suc, ◌+◌, ◌-◌, cond, List, [], ◌∷◌, ◌++◌, length, take, ℤ, pos, ◌+ℤ◌, ◌*ℤ◌, Some, None, Option, nat_lt}
 use Rattle.std.specs.List.{slice_get}
 use Rattle.model.specs.declared.Outcome.{Outcome}
-use Rattle.model.specs.Histories.{final, Unfolds}
+use Rattle.model.specs.Histories.{final, History, Unfolds}
 use Rattle.model.specs.Models.{Model}
 use Rattle.refusal.specs.declared.Refusal.TheVariants.{NotOffered, NoSuchOutcome, LastSlot}
 use Rattle.walk.specs.declared.Sight.{Sight}
 use Rattle.walk.specs.declared.Step.{Step}
-use Rattle.walk.specs.Walker.{Turn, goes, refuses, begun, walk_has, run}
+use Rattle.walk.specs.Walker.{Turn, goes, refuses, begun, chosen_in, reached, run, stands_at, walk_has}
 use Rattle.weighing.specs.Discounts.{discount_of}
 
 pub record Reckoner : Type 0 where
@@ -59,11 +59,32 @@ unfoldable pub reckon_run : (ℕ → ℕ) → Model → (List ℕ → ℤ) → R
 reckon_run discount g reward r [] = []
 reckon_run discount g reward r (n ∷ ns) = reckon_step discount reward (reckon_turn g r n) ∷ reckon_run discount g reward (reckon_turn g r n).next ns
 
+-- the reckoner after a list of numbers, and the record that he then keeps
+unfoldable pub reckoned_after : Model → Reckoner → List ℕ → Reckoner
+reckoned_after g r [] = r
+reckoned_after g r (n ∷ ns) = reckoned_after g (reckon_turn g r n).next ns
+
+abbrev pub record_after : Model → List ℕ → List ℕ
+record_after g ns = (reckoned_after g (begins g) ns).history
+
 -- a walk on m and the reckoner over g agree: at the opening, and through every list of numbers, accepted or not
 pub record Agree (discount : ℕ → ℕ) (g m : Model) (reward : List ℕ → ℤ) : Type 0 where
   pub opening : walk_has m (begun discount m) ≡ reckoner_has discount reward (begins g)
   pub always : (ns : List ℕ) → run discount m (begun discount m) ns ≡ reckon_run discount g reward (begins g) ns
 
+-- after the numbers ns a walk on m stands where the record of the reckoner over g leads, with the same choice open, and has what he has
+pub record Beside (discount : ℕ → ℕ) (g m : Model) (code : List ℕ → ℕ) (reward : List ℕ → ℤ) (ns : List ℕ) : Type 0 where
+  pub led : History g (record_after g ns)
+  pub stands : stands_at (reached discount m (begun discount m) ns) ≡ code (record_after g ns)
+  pub chosen : chosen_in (reached discount m (begun discount m) ns) ≡ (reckoned_after g (begins g) ns).chosen
+  pub has : walk_has m (reached discount m (begun discount m) ns) ≡ reckoner_has discount reward (reckoned_after g (begins g) ns)
+
+abbrev pub StaysBeside : (ℕ → ℕ) → Model → Model → (List ℕ → ℕ) → (List ℕ → ℤ) → Type 0
+StaysBeside discount g m code reward = (ns : List ℕ) → Beside discount g m code reward ns
+
 -- over every model that m unfolds
 abbrev pub AgreesOverAll : Model → Type 0
 AgreesOverAll m = (g : Model) (code mask : List ℕ → ℕ) (reward : List ℕ → ℤ) → Unfolds g m code mask reward → Agree discount_of g m reward
+
+abbrev pub BesideOverAll : Model → Type 0
+BesideOverAll m = (g : Model) (code mask : List ℕ → ℕ) (reward : List ℕ → ℤ) → Unfolds g m code mask reward → StaysBeside discount_of g m code reward

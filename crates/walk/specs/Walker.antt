@@ -28,6 +28,11 @@ abbrev pub stands_at : Walk → ℕ
 stands_at (standing s) = s.state
 stands_at (choosing s a) = s.state
 
+-- the choice that is open, if one is
+abbrev pub chosen_in : Walk → Option ℕ
+chosen_in (standing s) = None
+chosen_in (choosing s a) = Some a
+
 -- the answer to a number, and what is after it
 pub record Turn (W : Type 0) : Type 0 where
   pub refused : Option Refusal

@@ -31,6 +31,15 @@ pub struct Step {
     pub sight: Sight,
 }
 
+// What a walk through numbers had at its opening and has at its end, and whether it closed there. Where it did not, an outcome of the open
+// choice is missing.
+#[derive(Clone, Copy, Debug, PartialEq, Eq)]
+pub struct Course {
+    pub opening: Sight,
+    pub last: Sight,
+    pub closed: bool,
+}
+
 // A refusal, and the walk as it was before.
 #[derive(Drop)]
 pub struct Refused<W> {

@@ -1,6 +1,6 @@
 // A walk that takes numbers one by one, whether a choice is open or not.
 ghost use Rattle.std.specs.Prelude.{◌≡◌, true, false};
-ghost use Rattle.walk.specs.Reckoner.{AgreesOverAll};
+ghost use Rattle.walk.specs.Reckoner.{AgreesOverAll, BesideOverAll};
 ghost use Rattle.walk.specs.Views.{walk_of, turn_of, choice_of, telling_of, ending_of};
 ghost use Rattle.walk.specs.Walker.{begun, is_choosing, stands_at, turn, ending, walk_has};
 ghost use Rattle.weighing.specs.Discounts.{discount_of};
@@ -27,6 +27,7 @@ impl Walker {
     pub fn open<M: SiteModel>(model: &M) -> Walker
         ensures begun { walk_of result ≡ begun discount_of (M.SiteModel.meaning model.now) }
         ensures agrees { AgreesOverAll (M.SiteModel.meaning model.now) }
+        ensures beside { BesideOverAll (M.SiteModel.meaning model.now) }
     {
         Walker::Standing(Standing::open(model))
     }

@@ -1,9 +1,11 @@
 // Reading a wish book, and what a book holds.
-ghost use Rattle.std.specs.Prelude.{◌≡◌, true};
+ghost use Rattle.std.specs.Prelude.{◌≡◌, true, IfOk};
 ghost use Rattle.words.specs.Format.{Faithful};
-ghost use Rattle.wishlayout.specs.Layout.{wish_format, wish_words};
+ghost use Rattle.words.specs.Refusing.{RefusesRightly};
+ghost use Rattle.wishlayout.specs.Layout.{wish_format, wish_words, Good, written};
+ghost use Rattle.wishlayout.specs.WordTests.{may_end, passes, closes};
 ghost use Rattle.wishlayout.specs.Wishes.{valid};
-ghost use Rattle.wishbook.specs.Book.{SameWishes};
+ghost use Rattle.wishbook.specs.Book.{SameWishes, KeepsItems};
 ghost use Rattle.wishbook.specs.Contents.{Reads, contents};
 
 use crate::book::WishBook;
@@ -14,11 +16,13 @@ use wishlayout::Wish;
 use words::read;
 
 // The wish book in a file's bytes, or the first refusal and the place of its word.
-#[tactic(auto, using(crate::proofs::Whole::same_wishes, wishlayout::proofs::Way::wish_faithful))]
+#[tactic(auto, using(crate::proofs::Whole::same_wishes, crate::proofs::Remembering::answer_keeps, wishlayout::proofs::Way::wish_faithful, wishlayout::proofs::Refusing::wish_refuses))]
 pub fn read_wish(bytes: &[u8]) -> Result<WishBook, Fault>
     ensures reads { Reads bytes.now result }
     ensures faithful { Faithful wish_format (λ b. valid b ≡ true) wish_words }
+    ensures refuses { RefusesRightly wish_format Good written may_end passes closes }
     ensures means { SameWishes }
+    ensures remembers { IfOk result (λ book. KeepsItems (contents book)) }
 {
     read::<Gathered>(bytes)
 }

@@ -1,3 +1,4 @@
 pub mod OneWords
 pub mod Way
 pub mod NodeKinds
+pub mod Refusing

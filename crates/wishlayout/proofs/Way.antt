@@ -16,13 +16,8 @@ use Rattle.words.proofs.Tests.{all_push, same_more, check_more, onto_more}
 use Rattle.wishlayout.specs.declared.Wish.{Wish}
 use Rattle.wishlayout.specs.OneWord.{node_word, wish_word, node_of}
 use Rattle.wishlayout.specs.Wishes.{Wishes, items_for, good_label, good_wish, valid}
-use Rattle.wishlayout.specs.Layout.{node_words, amount_words, wish_words, Draft, noding, wishing, read_wish, read_word, whole_book, wish_format, GoodNodes, Good}
+use Rattle.wishlayout.specs.Layout.{node_words, amount_words, wish_words, Draft, noding, wishing, read_wish, read_word, whole_book, wish_format, written, GoodNodes, Good}
 use Rattle.wishlayout.proofs.OneWords.{node_reads, wish_in_reads, node_kind, node_written, wish_written}
-
--- the words that a draft was read from
-abbrev written : Draft → List ℕ
-written (noding ns) = node_words ns
-written (wishing ns ws) = node_words ns ++ amount_words ws
 
 some_nodes : (ns : List Node) → none ns ≡ false → 1 ≤ length ns
 some_nodes [] e = search rules
@@ -70,7 +65,7 @@ node_step : (before : List Node) (n : Node) → length before < 128 → operands
 unfolding read_word
 node_step before n room o l = search (rules, node_kind (length before) n, node_written (length before) n)
 
-way_nodes : (before rest : List Node) → earlier_from (length before) rest ≡ true → all good_label rest ≡ true → length before + length rest ≤ 128 → Passes wish_format (noding before) (node_words rest) (noding (before ++ rest))
+pub way_nodes : (before rest : List Node) → earlier_from (length before) rest ≡ true → all good_label rest ≡ true → length before + length rest ≤ 128 → Passes wish_format (noding before) (node_words rest) (noding (before ++ rest))
 way_nodes before [] o l few = ap noding (sym (append-nil before))
 way_nodes before (n ∷ rest) o l few =
     let po = and_parts (operands_below (length before) n) (earlier_from (suc (length before)) rest) o in
@@ -88,7 +83,7 @@ way_nodes before (n ∷ rest) o l few =
       ),
     )
 
-first_wish : (n : Node) (ns : List Node) (w : Wish) → length (n ∷ ns) ≤ 128 → good_wish (length (n ∷ ns)) w ≡ true → read_word (noding (n ∷ ns)) (wish_word w) ≡ more (wishing (n ∷ ns) (w ∷ []))
+pub first_wish : (n : Node) (ns : List Node) (w : Wish) → length (n ∷ ns) ≤ 128 → good_wish (length (n ∷ ns)) w ≡ true → read_word (noding (n ∷ ns)) (wish_word w) ≡ more (wishing (n ∷ ns) (w ∷ []))
 unfolding read_word
 first_wish n ns w few good = search (rules, wish_written (length (n ∷ ns)) w)
 
@@ -96,7 +91,7 @@ wish_step : (ns : List Node) (before : List Wish) (w : Wish) → length ns ≤ 1
 unfolding read_word
 wish_step ns before w few room good = search (rules, wish_written (length ns) w)
 
-way_wishes : (ns : List Node) (before rest : List Wish) → length ns ≤ 128 → all (good_wish (length ns)) rest ≡ true → length before + length rest ≤ 16 → Passes wish_format (wishing ns before) (amount_words rest) (wishing ns (before ++ rest))
+pub way_wishes : (ns : List Node) (before rest : List Wish) → length ns ≤ 128 → all (good_wish (length ns)) rest ≡ true → length before + length rest ≤ 16 → Passes wish_format (wishing ns before) (amount_words rest) (wishing ns (before ++ rest))
 way_wishes ns before [] few good room = ap (wishing ns) (sym (append-nil before))
 way_wishes ns before (w ∷ rest) few good room =
     let parts = and_parts (good_wish (length ns) w) (all (good_wish (length ns)) rest) good in

@@ -49,7 +49,14 @@ whole_book (wishing ns ws) = cond (nat_le (length (items_for ns ws)) 16) (Ok (re
 abbrev pub wish_format : Format Draft Wishes
 wish_format = record { start = noding []; step = read_word; finish = whole_book }
 
--- what holds of every draft that a reader comes to
+-- what has been said so far
+
+-- the words that a draft was read from
+abbrev pub written : Draft → List ℕ
+written (noding ns) = node_words ns
+written (wishing ns ws) = node_words ns ++ amount_words ws
+
+-- what is known of a draft: its nodes and wishes are good ones, and not too many
 
 abbrev pub GoodNodes : List Node → Type 0
 GoodNodes ns = (earlier ns ≡ true) × ((all good_label ns ≡ true) × (length ns ≤ 128))

@@ -3,3 +3,4 @@ pub mod Encoding
 pub mod Fields
 pub mod Tests
 pub mod Drafts
+pub mod Refusing

@@ -42,7 +42,7 @@ placed (stop r p) = p
 same_place : {B : Type 0} {r t : Refusal} {p q : ℕ} → ◌≡◌ {A = Verdict B} (stop r p) (stop t q) → p ≡ q
 same_place e = ap placed e
 
-ending_place : {B : Type 0} (whole : Result B Refusal) (p w : ℕ) (last : Bool) (r : Refusal) (q : ℕ) → ending whole p w last ≡ stop r q → p ≡ q
+pub ending_place : {B : Type 0} (whole : Result B Refusal) (p w : ℕ) (last : Bool) (r : Refusal) (q : ℕ) → ending whole p w last ≡ stop r q → p ≡ q
 ending_place (Ok b) p w last r q e =
     elim (cases_Bool (eqb (w % 2 ^ 28) p && last)) [
       | inl t ↦ let z : ◌≡◌ {A = ℕ} 0 1 = cc (ap (λ t. cond t (closing (Ok b) p) (stop WrongEnd p)) t, e) in absurd (omega arith)

@@ -44,10 +44,10 @@ within_from low high n h k = and_from (leb low n) (leb n high) (le-leb low n h) 
 pub same_more : {S : Type 0} {x y : S} → more x ≡ more y → x ≡ y
 same_more e = cc
 
-wrong_is_not_more : {S : Type 0} {r : Refusal} {t : S} → wrong r ≡ more t → ⊥
+pub wrong_is_not_more : {S : Type 0} {r : Refusal} {t : S} → wrong r ≡ more t → ⊥
 wrong_is_not_more e = let z : ◌≡◌ {A = ℕ} 0 1 = cc in omega arith
 
-wrong_is_not_end : {S : Type 0} {r : Refusal} → ◌≡◌ {A = Step S} (wrong r) ends → ⊥
+pub wrong_is_not_end : {S : Type 0} {r : Refusal} → ◌≡◌ {A = Step S} (wrong r) ends → ⊥
 wrong_is_not_end e = let z : ◌≡◌ {A = ℕ} 0 1 = cc in omega arith
 
 -- where a word was read, it passed the test

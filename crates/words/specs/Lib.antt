@@ -2,3 +2,4 @@ pub mod Words
 pub mod Format
 pub mod Tests
 pub mod Drafts
+pub mod Refusing

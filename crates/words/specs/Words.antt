@@ -23,6 +23,18 @@ abbrev pub bytes_of : List ℕ → List ℕ
 bytes_of [] = []
 bytes_of (w ∷ ws) = w % 256 ∷ (w / 256 % 256 ∷ (w / 65536 % 256 ∷ (w / 16777216 % 256 ∷ bytes_of ws)))
 
+-- the words that are there whole in a file
+abbrev pub words_of : List ℕ → List ℕ
+words_of [] = []
+words_of (a ∷ []) = []
+words_of (a ∷ b ∷ []) = []
+words_of (a ∷ b ∷ c ∷ []) = []
+words_of (a ∷ b ∷ c ∷ d ∷ rest) = word_of a b c d ∷ words_of rest
+
+-- the word at place p of a file, counted from 0
+abbrev pub word_at : List ℕ → ℕ → ℕ
+word_at bytes p = slice_index (words_of bytes) p
+
 -- every number of the list is a byte
 abbrev pub Bytes : List ℕ → Type 0
 Bytes [] = Unit {0}

@@ -6,8 +6,8 @@ use Rattle.model.specs.declared.Outcome.{Outcome}
 use Rattle.model.specs.Histories.{final, History, along, Unfolds}
 use Rattle.model.specs.Models.{Model, Lawful}
 use Rattle.model.proofs.Paths.{one_over}
-use Rattle.register.specs.Keys.{number_decides, place_of}
-use Rattle.register.proofs.Keys.{place_of-get_or}
+use Rattle.register.specs.Keys.{place_of}
+use Rattle.register.proofs.Identity.{eqb_identity, place_of-get_or}
 use Rattle.sitebook.specs.Models.{outcome_of}
 use Rattle.writeout.specs.Book.{move_to, cell_of, book_of}
 use Rattle.writeout.specs.Copies.{Copies, by_origin, placed, CarriesOver}
@@ -39,7 +39,7 @@ module _ (m : Model) (law : Lawful m) (codes : List ℕ) (from : Closed m codes)
 
     carried : Unfolds g (by_origin (book_of m codes)) (placed codes code) mask reward
     carried = record {
-      first = ap (λ c. place_of eqb c codes) (u.first ∙ sym from.first) ∙ place_of-get_or eqb number_decides codes 0 0 from.once from.some;
+      first = ap (λ c. place_of eqb c codes) (u.first ∙ sym from.first) ∙ place_of-get_or eqb eqb_identity codes 0 0 from.once from.some;
       states = λ h hist. lt-ltb _ _ (omega (arith, below h hist, copies.states));
       sites = λ h hist. copies.origins (placed codes code h) (below h hist) ∙ ap m.site (here h hist) ∙ u.sites h hist;
       masks = λ h hist. copies.masks (placed codes code h) (below h hist) ∙ ap m.mask (here h hist) ∙ u.masks h hist;

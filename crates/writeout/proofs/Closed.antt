@@ -5,8 +5,8 @@ use Rattle.std.specs.List.{ContainsAt as Has}
 use Rattle.std.proofs.lemmas.Bool.{cases_lt}
 use Rattle.model.specs.declared.Outcome.{Outcome}
 use Rattle.model.specs.Models.{Model}
-use Rattle.register.specs.Keys.{number_decides, Distinct, place_of}
-use Rattle.register.proofs.Keys.{place_of_at, place_of_before}
+use Rattle.register.specs.Keys.{Distinct, place_of}
+use Rattle.register.proofs.Identity.{eqb_identity, place_of_at, place_of_before}
 use Rattle.reach.specs.Reached.{Reached}
 
 -- what the book is written from: different states, with all their targets among them
@@ -24,12 +24,12 @@ pub place_below : (codes : List ℕ) (c : ℕ) → Has codes c → place_of eqb 
 place_below codes c has =
     ⊎_elim
     (λ (h : place_of eqb c codes < length codes). h)
-    (λ (h : length codes ≤ place_of eqb c codes). absurd (place_of_before eqb number_decides c codes has.0 0 (omega (arith, has.1)) (has.2 0)))
+    (λ (h : length codes ≤ place_of eqb c codes). absurd (place_of_before eqb eqb_identity c codes has.0 0 (omega (arith, has.1)) (has.2 0)))
     (cases_lt (place_of eqb c codes) (length codes))
 
 -- and stands there
 pub place_code : (codes : List ℕ) (c : ℕ) → Has codes c → get_or codes (place_of eqb c codes) 0 ≡ c
-place_code codes c has = place_of_at eqb number_decides c codes 0 (place_below codes c has)
+place_code codes c has = place_of_at eqb eqb_identity c codes 0 (place_below codes c has)
 
 -- so that different codes have different places
 pub place_one : (codes : List ℕ) (c d : ℕ) → Has codes c → Has codes d → place_of eqb c codes ≡ place_of eqb d codes → c ≡ d

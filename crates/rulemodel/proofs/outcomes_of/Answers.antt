@@ -18,7 +18,7 @@ loop-effect-preserved c =
     let none : Effect = record { set = 0; clear = 0; weight = 0 } in
     let here = c.loop-effect-test.true in
     let so_far = c.loop-effect.invariant in
-    let all : (length es ≤ 8) × (total es ≤ 8) = grind (arith, common_steps) in
+    let all : (length es ≤ 8) × (total es < 256) = grind (arith, common_steps) in
     let room : length (listed c.loop-effect.ways) < 8 = omega (arith, ap length so_far, room_left s es i none here, all.0) in
     let light : weights (listed c.loop-effect.ways) + (get_or es i none).weight < 256 = omega (arith, ap weights so_far, light_yet s es i none here, all.1) in
     c.with_landing-ways.ensures room light

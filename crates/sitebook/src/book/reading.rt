@@ -1,42 +1,47 @@
 // Reading a site book: the verdict on the file first, and then the tables.
-ghost use Rattle.std.specs.Prelude.{◌≡◌, true, IfOk, MatchResult};
+ghost use Rattle.std.specs.Prelude.{◌≡◌, true, MatchResult};
 ghost use Rattle.words.specs.Format.{Faithful, got, reading};
-ghost use Rattle.sitelayout.specs.Layout.{site_format, site_words};
+ghost use Rattle.words.specs.Refusing.{RefusesRightly};
+ghost use Rattle.sitelayout.specs.Layout.{site_format, site_words, Good, written};
 ghost use Rattle.sitelayout.specs.Site.{Site, valid};
+ghost use Rattle.sitelayout.specs.WordTests.{may_end, passes, closes};
 ghost use Rattle.siteverdict.specs.Counting.{Counted};
 ghost use Rattle.sitebook.specs.Contents.{contents};
 ghost use Rattle.sitebook.specs.Reading.{NotRead};
-ghost use Rattle.sitebook.specs.Storing.{held};
+ghost use Rattle.sitebook.specs.Storing.{held, nothing};
 
 use crate::book::SiteBook;
 use crate::store::Store;
-use refusal::Unread;
+use refusal::{Fault, Refusal, Unread};
 use sitelayout::Kind;
 use siteverdict::{Counts, verdict};
-use std::alloc::{AllocError, Global};
+use std::alloc::Global;
 use words::next_word;
 
 // The book that a file is, or the first refusal and its place; want of memory only where the file is a book.
-#[tactic(auto, using(sitelayout::proofs::Way::site_faithful))]
+#[tactic(auto, using(sitelayout::proofs::Way::site_faithful, sitelayout::proofs::Refusing::site_refuses))]
 pub fn read_site(heap: Global, bytes: &[u8]) -> Result<SiteBook, Unread>
     ensures reads { MatchResult result (λ b. reading site_format bytes.now ≡ got (contents b)) (λ why. NotRead (reading site_format bytes.now) why) }
     ensures faithful { Faithful site_format (λ b. valid b ≡ true) site_words }
+    ensures refuses { RefusesRightly site_format Good written may_end passes closes }
 {
     let counts = verdict(bytes)?;
-    Ok(stored(heap, bytes, counts)?)
+    let store = Store::with_room(heap, counts)?;
+    Ok(stored(store, bytes, counts)?)
 }
 
-// The tables of a file that is known to be a book. It requires that, since the pass that stores tests no word.
-// The loop is its own: it tests nothing and may run out of memory, and to `words::read` a step that fails has refused a word.
-fn stored(heap: Global, bytes: &[u8], counts: Counts) -> Result<SiteBook, AllocError>
-    requires { (b : Site) × ((reading site_format bytes.now ≡ got b) × Counted counts b) }
-    ensures { IfOk result (λ k. reading site_format bytes.now ≡ got (contents k)) }
+// The tables of a file that is known to be a book: this pass allocates nothing, and the kind of a word is all that it tests. No word of a
+// book is missing, so nothing is refused.
+fn stored(mut store: Store, bytes: &[u8], counts: Counts) -> Result<SiteBook, Fault>
+    requires known { (b : Site) × ((reading site_format bytes.now ≡ got b) × Counted counts b) }
+    requires unwritten { held store ≡ nothing counts.head }
+    ensures { MatchResult result (λ k. reading site_format bytes.now ≡ got (contents k)) (λ _. ⊥) }
 {
-    let mut store = Store::with_room(heap, counts)?;
     let mut rest = bytes;
+    let mut place = 0;
     loop {
         let Some((word, next)) = next_word(rest) else {
-            unreachable();
+            return Err(Refusal::CutOff.at(place));
         };
         match Kind::try_from(word) {
             Ok(Kind::End) => {
@@ -46,8 +51,9 @@ fn stored(heap: Global, bytes: &[u8], counts: Counts) -> Result<SiteBook, AllocE
                     bound: counts.bound,
                 });
             }
-            _ => store.put(word)?,
+            _ => store.put(word),
         }
         rest = next;
+        place += 1;
     }
 }

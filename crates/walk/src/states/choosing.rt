@@ -1,6 +1,6 @@
 // Opening a walk, choosing and closing.
 ghost use Rattle.std.specs.Prelude.{◌≡◌};
-ghost use Rattle.walk.specs.Reckoner.{AgreesOverAll};
+ghost use Rattle.walk.specs.Reckoner.{AgreesOverAll, BesideOverAll};
 ghost use Rattle.walk.specs.Views.{stand_of, choice_of};
 ghost use Rattle.walk.specs.Walker.{opened, choice, sight_of};
 ghost use Rattle.weighing.specs.Discounts.{discount_of};
@@ -15,10 +15,12 @@ use refusal::Refusal;
 const LAST_SLOT: usize = 12;
 
 impl Standing {
-    // Opens a walk at the model's start. Whatever the numbers that it is then given, it agrees with the reckoner (`agrees`).
+    // Opens a walk at the model's start. Whatever the numbers that it is then given, it agrees with the reckoner (`agrees`), and stands
+    // where his record leads (`beside`).
     pub fn open<M: SiteModel>(model: &M) -> Standing
         ensures stands { stand_of result ≡ opened discount_of (M.SiteModel.meaning model.now) }
         ensures agrees { AgreesOverAll (M.SiteModel.meaning model.now) }
+        ensures beside { BesideOverAll (M.SiteModel.meaning model.now) }
     {
         let state = model.start();
         Standing {

@@ -1,6 +1,7 @@
 use Rattle.std.proofs.Common.{sym, ap, ◌∙◌}
-use Rattle.layer.proofs.Bits.{memory_tells, wishes_show}
+use Rattle.layer.proofs.Bits.{memory_tells, wishes_show, labels_stay}
 use Rattle.pile.proofs.Keeping.{pile_keeps}
+use Rattle.pile.proofs.Telling.{bits_tell}
 use Rattle.pile.proofs.promise.start_of.Goals as goal
 
 pub returns : goal.returns
@@ -13,4 +14,6 @@ returns g c =
       keeps = keeps;
       memory = memory_tells;
       wishes = wishes_show;
+      labels = labels_stay;
+      bits = bits_tell (g.P.Pile.base c.args.pile.now) laid.lawfully laid.grounded (g.P.Pile.floors c.args.pile.now) laid.sound;
     }

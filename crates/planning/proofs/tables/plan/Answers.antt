@@ -1,18 +1,13 @@
-use Rattle.std.proofs.Common.{◌≡◌, ℕ, ◌+◌, ◌*◌, ◌<◌, ◌≤◌, cond, ◌&&◌, leb, length, get_or, ℤ, pos, Ok, Err, sym, ap, ◌∙◌, subst, w64, to_z, of_z, arith, rules, add-one, suc-mul}
+use Rattle.std.proofs.Common.{◌≡◌, ◌+◌, ◌*◌, ◌<◌, length, get_or, pos, Ok, sym, ap, ◌∙◌, subst, w64, to_z, of_z, arith, rules, add-one, suc-mul}
 use Rattle.std.proofs.lemmas.Nat.{div-mul-add, mod-mul-add}
-use Rattle.std.proofs.lemmas.Bool.{cond-true, le-leb}
-use Rattle.refusal.specs.declared.Refusal.TheVariants.{HorizonTooLong, PlanTableShort}
 use Rattle.weighing.specs.Discounts.{discount_of}
 use Rattle.worth.specs.Policies.{Best}
 use Rattle.worth.specs.Worths.{worth_of}
-use Rattle.planning.specs.Plans.{tabled}
+use Rattle.planning.specs.Plans.{tabled, unless_refused}
+use Rattle.planning.proofs.Accepting.{accepted, accepted_short}
 use Rattle.planning.proofs.Better.{nobody_better}
+use Rattle.planning.proofs.Choosing.{chooses_lowest, nothing_held}
 use Rattle.planning.proofs.tables.plan.Goals as goal
-
--- where neither the horizon nor a table is refused
-answered : (v : ℤ) (h a b worths choices : ℕ) → h ≤ 12 → a ≤ worths → b ≤ choices → Ok v ≡ cond (leb h 12) (cond (leb a worths && leb b choices) (Ok v) (Err PlanTableShort)) (Err HorizonTooLong)
-answered v h a b worths choices short first second =
-    sym (cond-true (leb h 12) (cond (leb a worths && leb b choices) (Ok v) (Err PlanTableShort)) (Err HorizonTooLong) (le-leb h 12 short) ∙ cond-true (leb a worths && leb b choices) (Ok v) (Err PlanTableShort) (rw (le-leb a worths first, le-leb b choices second)))
 
 -- the answer is the start's worth with all slots left
 start_worth : (g : _) (c : goal.After-result-1 g) → to_z w64 (of_z w64 (get_or c.fill.new.worths (c.args.horizon * c.count-states.result + c.start.result) (pos 0))) ≡ worth_of (g.W.Weighing.meaning c.args.weighing.now) discount_of (g.M.SiteModel.meaning c.args.model.now) c.args.horizon c.args.horizon (g.M.SiteModel.meaning c.args.model.now).start
@@ -34,10 +29,18 @@ start_worth g c =
 pub returns-clause-answer : goal.returns-clause-answer
 returns-clause-answer g c =
     let m = g.M.SiteModel.meaning c.args.model.now in
-    let states = c.count-states.ensures.count in
-    let first : (c.args.horizon + 1) * m.span ≤ length c.args.worths.now = omega (arith, ap (λ n. (c.args.horizon + 1) * n) states) in
-    let second : c.args.horizon * m.span ≤ length c.args.choices.now = omega (arith, ap (λ n. c.args.horizon * n) states) in
-    ap Ok (start_worth g c) ∙ answered (worth_of (g.W.Weighing.meaning c.args.weighing.now) discount_of m c.args.horizon c.args.horizon m.start) c.args.horizon ((c.args.horizon + 1) * m.span) (c.args.horizon * m.span) (length c.args.worths.now) (length c.args.choices.now) (omega arith) first second
+    let v = worth_of (g.W.Weighing.meaning c.args.weighing.now) discount_of m c.args.horizon c.args.horizon m.start in
+    let ok = accepted c.count-states.result c.args.horizon (length c.args.worths.now) (length c.args.choices.now) c.in_ok-check_sizes.ensures v in
+    ap Ok (start_worth g c) ∙ ok ∙ ap (λ n. unless_refused v n c.args.horizon (length c.args.worths.now) (length c.args.choices.now)) c.count-states.ensures.count
+
+pub returns-clause-chooses : goal.returns-clause-chooses
+returns-clause-chooses g c =
+    chooses_lowest (g.W.Weighing.meaning c.args.weighing.now) (g.M.SiteModel.meaning c.args.model.now) (g.met.M.SiteModel.lawful c.args.model.now) (g.met.M.Numbered.numbered c.args.model.now) c.args.horizon c.fill.new.worths c.fill.new.choices c.fill.ensures.worths.places c.fill.ensures.choices.places
+
+pub returns-clause-free : goal.returns-clause-free
+returns-clause-free g c =
+    nothing_held (g.W.Weighing.meaning c.args.weighing.now) (g.M.SiteModel.meaning c.args.model.now) (g.met.M.SiteModel.lawful c.args.model.now) (g.met.M.Numbered.numbered c.args.model.now) c.args.horizon c.fill.new.worths c.fill.new.choices c.fill.ensures.worths.places c.fill.ensures.choices.places
+    (accepted_short c.count-states.result c.args.horizon (length c.args.worths.now) (length c.args.choices.now) c.in_ok-check_sizes.ensures)
 
 pub returns-clause-nobody : goal.returns-clause-nobody
 returns-clause-nobody g c = λ g' code mask reward u.

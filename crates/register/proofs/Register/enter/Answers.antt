@@ -14,7 +14,7 @@ invariant_of-self g c =
     let l : n < length xs = omega arith in
     record {
       fits = omega (arith, length-set xs n k);
-      apart = written_distinct g.K.PartialEq.eq g.met.K.Key.decides k xs n l c.in_default.ensures s.apart;
+      apart = written_distinct g.K.PartialEq.eq g.met.K.Eq.laws k xs n l c.in_default.ensures s.apart;
       chained =
           chained_entry g.K.Key.bucket xs k n s.chains.heads s.chains.earlier c.link.new.self.heads c.link.new.self.earlier l s.chained
           (λ few m old. subst (λ b. Chained c.link.new.self.heads c.link.new.self.earlier (set (buckets g.K.Key.bucket xs) n b) (n + 1)) c.bucket_of.ensures.bucket (c.link.ensures.linked (buckets g.K.Key.bucket xs) few m old))

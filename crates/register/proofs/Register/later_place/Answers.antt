@@ -16,7 +16,7 @@ returns-in_err-place g c =
     let part = c.as_slice.result.now in
     let rest : c.in_ok-later.later.now ≡ drop 4096 ks =
     c.in_ok-later.ensures.lookup.0.2 ∙ take_all (length part - 4096) (drop 4096 part) (omega (arith, length-drop 4096 part)) ∙ ap (drop 4096) c.as_slice.ensures in
-    let none = later_none eq g.met.K.Key.decides ks k 4096 (search (rules, first, rest)) in
+    let none = later_none eq g.met.K.Eq.laws ks k 4096 (search (rules, first, rest)) in
     search (rules, size, none)
 
 pub returns : goal.returns
@@ -29,5 +29,5 @@ returns g c =
     let part = c.as_slice.result.now in
     let rest : c.in_ok-later.later.now ≡ drop 4096 ks =
     c.in_ok-later.ensures.lookup.0.2 ∙ take_all (length part - 4096) (drop 4096 part) (omega (arith, length-drop 4096 part)) ∙ ap (drop 4096) c.as_slice.ensures in
-    let some = later_some eq g.met.K.Key.decides ks k 4096 c.in_ok-place.place (search (rules, first, rest)) (search (rules, first, rest)) in
+    let some = later_some eq g.met.K.Eq.laws ks k 4096 c.in_ok-place.place (search (rules, first, rest)) (search (rules, first, rest)) in
     search (rules, size, some)

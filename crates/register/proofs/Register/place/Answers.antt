@@ -7,10 +7,10 @@ pub returns-in-Some : goal.returns-in-Some
 returns-in-Some g c =
     let s = c.args.self.now in
     let size : length (listed s) ≡ s.len = search rules in
-    placed g.K.PartialEq.eq g.met.K.Key.decides c.args.key.now (listed s) 0 (min s.len 4096) c.in-Some.place s.apart (omega (arith, size)) c.in-Some.ensures
+    placed g.K.PartialEq.eq g.met.K.Eq.laws c.args.key.now (listed s) 0 (min s.len 4096) c.in-Some.place s.apart (omega (arith, size)) c.in-Some.ensures
 
 pub returns : goal.returns
 returns g c =
     let s = c.args.self.now in
     let size : length (listed s) ≡ s.len = search rules in
-    both_parts g.K.PartialEq.eq g.met.K.Key.decides c.args.key.now (listed s) s.len size s.apart c.in_default.ensures c.later_place.result c.later_place.ensures
+    both_parts g.K.PartialEq.eq g.met.K.Eq.laws c.args.key.now (listed s) s.len size s.apart c.in_default.ensures c.later_place.result c.later_place.ensures

@@ -6,7 +6,7 @@ use Rattle.register.proofs.count.distinct.Goals as goal
 pub returns : goal.returns
 returns g c =
     let inv = c.loop-key.invariant in
-    counted g.K.PartialEq.eq g.met.K.Key.decides c.args.keys.now c.new-register.result.keys.now c.args.table.now c.loop-key.register.keys.now c.loop-key.register.len c.loop-key.key-index _
+    counted g.K.PartialEq.eq g.met.K.Eq.laws c.args.keys.now c.new-register.result.keys.now c.args.table.now c.loop-key.register.keys.now c.loop-key.register.len c.loop-key.key-index _
     c.loop-key.register.fits
     c.loop-key-test.false
     inv.0

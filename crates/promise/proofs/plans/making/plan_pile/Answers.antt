@@ -1,0 +1,106 @@
+use Rattle.std.proofs.Common.{◌≡◌, ◌+◌, ◌*◌, ◌≤◌, length, Ok, Err, w64, to_z, of_z, refl, subst, sym, ap, ◌∙◌, arith, rules}
+use lib.ListN.{length-replicate}
+use Rattle.pile.specs.Piles.{shown_on}
+use Rattle.planning.specs.Plans.{Filled, HoldsTo, answer_of, worth_at, choice_at, tabled}
+use Rattle.sitebook.specs.Contents.{contents}
+use Rattle.weighing.specs.Discounts.{discount_of}
+use Rattle.worth.specs.Policies.{Best}
+use Rattle.worth.specs.Worths.{worth_of}
+use Rattle.writeout.specs.Copies.{by_origin}
+use Rattle.promise.specs.Corresponding.{book_model, place_in}
+use Rattle.promise.specs.Planning.{PlansAs}
+use Rattle.promise.proofs.Earning.{best_of_pile, best_in_book}
+use Rattle.promise.proofs.Preparing.{states_are, told_error}
+use Rattle.promise.proofs.Rereading.{wrote}
+use Rattle.promise.proofs.Whole.{front_length, holds_front, sizes_fit, unplanned_as, whole_plan, worth_told}
+use Rattle.promise.proofs.plans.making.plan_pile.Goals as goal
+
+pub returns-in_err-written-clause-answer : goal.returns-in_err-written-clause-answer
+returns-in_err-written-clause-answer g c =
+    let w = g.W.Weighing.meaning c.args.weighing.now in
+    let m = g.P.SiteModel.meaning c.args.pile.now in
+    let why = c.in_err-written.field-0.0 in
+    let is : c.from_residual.result ≡ Err why = told_error c.from_residual.result why c.from_residual.ensures.1 in
+    subst (PlansAs w m c.args.horizon c.args.tables.now) (sym is) (unplanned_as w m c.args.horizon c.args.tables.now why c.in_err-written.ensures.answer)
+
+pub returns-in_err-written-clause-best : goal.returns-in_err-written-clause-best
+returns-in_err-written-clause-best g c = best_in_book (g.P.Pile.base c.args.pile.now) (g.P.Pile.floors c.args.pile.now) (g.P.SiteModel.meaning c.args.pile.now) c.prepare.ensures.faithful c.prepare.ensures.corresponds
+
+pub returns-in_err-worth-clause-best : goal.returns-in_err-worth-clause-best
+returns-in_err-worth-clause-best g c = best_in_book (g.P.Pile.base c.args.pile.now) (g.P.Pile.floors c.args.pile.now) (g.P.SiteModel.meaning c.args.pile.now) c.prepare.ensures.faithful c.prepare.ensures.corresponds
+
+pub returns-clause-best : goal.returns-clause-best
+returns-clause-best g c = best_in_book (g.P.Pile.base c.args.pile.now) (g.P.Pile.floors c.args.pile.now) (g.P.SiteModel.meaning c.args.pile.now) c.prepare.ensures.faithful c.prepare.ensures.corresponds
+
+pub fill-requires : goal.fill-requires
+fill-requires g c =
+    let m = g.P.SiteModel.meaning c.args.pile.now in
+    let t = c.args.tables.now in
+    let w = c.in_ok-written.field-0.written in
+    let told = c.in_ok-written.ensures.answer in
+    let states = states_are m c.prepare.ensures.faithful c.args.horizon (length t.codes.now) (length t.bytes.now) (length t.worths.now) (length t.choices.now) w told.0 in
+    let fit = sizes_fit (book_model m).span c.args.horizon (length t.worths.now) (length t.choices.now) told.2 in
+    let size : length c.in_ok-written.field-0.choices.items ≡ c.args.horizon * w.states = ap length c.in_ok-written.ensures.room ∙ length-replicate (c.args.horizon * w.states) 0 in
+    omega (arith, size, fit.1, ap (λ n. c.args.horizon * n) states)
+
+pub invariant_of-result : goal.invariant_of-result
+invariant_of-result g c =
+    let m = g.P.SiteModel.meaning c.args.pile.now in
+    let t = c.args.tables.now in
+    let law = g.met.W.Weighing.lawful c.args.weighing.now in
+    let fit = sizes_fit (book_model m).span c.args.horizon (length t.worths.now) (length t.choices.now) c.in_ok-written.ensures.answer.2 in
+    record { short = fit.0; some = omega (arith, law.unit_small.0, c.unit.ensures.unit); few = omega (arith, law.unit_small.1, c.unit.ensures.unit) }
+
+pub returns-clause-tables : goal.returns-clause-tables
+returns-clause-tables g c =
+    let w = g.W.Weighing.meaning c.args.weighing.now in
+    let h = c.args.horizon in
+    let told = c.in_ok-written.ensures in
+    let plan = c.in_ok-worth.ensures in
+    record {
+      codes = told.codes;
+      bytes = told.bytes;
+      worths = subst (λ b. Filled (worth_at w (by_origin b) h) ((h + 1) * (by_origin b).span) c.args.tables.now.worths.now c.fill.new.worths) told.answer.1 plan.worths;
+      choices = subst (λ b. Filled (choice_at w (by_origin b) h) (h * (by_origin b).span) c.args.tables.now.choices.now c.fill.new.choices) told.answer.1 plan.choices;
+    }
+
+pub returns-clause-plan : goal.returns-clause-plan
+returns-clause-plan g c =
+    let w = g.W.Weighing.meaning c.args.weighing.now in
+    let m = g.P.SiteModel.meaning c.args.pile.now in
+    let h = c.args.horizon in
+    let t = c.args.tables.now in
+    let told = c.in_ok-written.ensures.answer in
+    let written = wrote m (length t.codes.now) (length t.bytes.now) c.in_ok-written.field-0.written told.0 in
+    let states = states_are m c.prepare.ensures.faithful h (length t.codes.now) (length t.bytes.now) (length t.worths.now) (length t.choices.now) c.in_ok-written.field-0.written told.0 in
+    let fit = sizes_fit (book_model m).span h (length t.worths.now) (length t.choices.now) told.2 in
+    let filled : Filled (choice_at w (book_model m) h) (h * (book_model m).span) t.choices.now c.fill.new.choices = subst (λ x. Filled (choice_at w (by_origin x) h) (h * (by_origin x).span) t.choices.now c.fill.new.choices) told.1 c.in_ok-worth.ensures.choices in
+    let places : length c.in_ok-written.field-0.choices.items ≡ h * (book_model m).span = ap length c.in_ok-written.ensures.room ∙ length-replicate (h * c.in_ok-written.field-0.written.states) 0 ∙ ap (λ n. h * n) states in
+    let room : h * (book_model m).span ≤ length c.fill.new.choices = omega (arith, fit.1, filled.size) in
+    let back : to_z w64 (of_z w64 c.in_ok-worth.worth) ≡ c.in_ok-worth.worth = search rules in
+    let answer = subst (λ x. Ok c.in_ok-worth.worth ≡ answer_of w (by_origin x) h (length t.worths.now) (length t.choices.now)) told.1 c.in_ok-worth.ensures.answer in
+    let worth = worth_told c.in_ok-worth.worth (worth_of w discount_of (book_model m) h h (book_model m).start) (book_model m).span h (length t.worths.now) (length t.choices.now) told.2 answer in
+    whole_plan w (g.met.W.Weighing.lawful c.args.weighing.now) (g.P.Pile.base c.args.pile.now) (g.P.Pile.floors c.args.pile.now) m h c.prepare.ensures.faithful c.prepare.ensures.corresponds
+    _ written.few written.states written.words told.1 refl c.unit.ensures.unit (back ∙ worth)
+    (ap length c.in_ok-worth.ensures.kept ∙ front_length _ _ c.fill.new.choices places room)
+    (subst (HoldsTo (choice_at w (book_model m) h) (h * (book_model m).span)) (sym c.in_ok-worth.ensures.kept) (holds_front (choice_at w (book_model m) h) _ _ c.fill.new.choices places room filled.places))
+
+-- the plan in the table is the best
+best : (g : _) (c : goal.After-result-1 g)
+    → Best (g.W.Weighing.meaning c.args.weighing.now) discount_of (g.P.Pile.base c.args.pile.now) (shown_on (g.P.Pile.base c.args.pile.now) (g.P.Pile.floors c.args.pile.now)).reward c.args.horizon
+    (tabled c.fill.new.choices (book_model (g.P.SiteModel.meaning c.args.pile.now)).span (place_in (g.P.Pile.base c.args.pile.now) (g.P.Pile.floors c.args.pile.now) (g.P.SiteModel.meaning c.args.pile.now)) c.args.horizon)
+    (to_z w64 (of_z w64 c.in_ok-worth.worth))
+best g c =
+    let m = g.P.SiteModel.meaning c.args.pile.now in
+    let back : to_z w64 (of_z w64 c.in_ok-worth.worth) ≡ c.in_ok-worth.worth = search rules in
+    let told = c.in_ok-written.ensures.answer in
+    let few = (wrote m (length c.args.tables.now.codes.now) (length c.args.tables.now.bytes.now) c.in_ok-written.field-0.written told.0).few in
+    subst (Best (g.W.Weighing.meaning c.args.weighing.now) discount_of (g.P.Pile.base c.args.pile.now) (shown_on (g.P.Pile.base c.args.pile.now) (g.P.Pile.floors c.args.pile.now)).reward c.args.horizon
+    (tabled c.fill.new.choices (book_model m).span (place_in (g.P.Pile.base c.args.pile.now) (g.P.Pile.floors c.args.pile.now) m) c.args.horizon)) (sym back)
+    (best_of_pile (g.W.Weighing.meaning c.args.weighing.now) (g.P.Pile.base c.args.pile.now) (g.P.Pile.floors c.args.pile.now) m c.args.horizon c.fill.new.choices c.in_ok-worth.worth (contents c.in_ok-written.field-0.book.book) told.1 few c.prepare.ensures.corresponds c.in_ok-worth.ensures.nobody)
+
+pub returns-clause-earns : goal.returns-clause-earns
+returns-clause-earns g c = let b = best g c in (b.admissible, b.exactly)
+
+pub returns-clause-nobody : goal.returns-clause-nobody
+returns-clause-nobody g c = (best g c).nobody
