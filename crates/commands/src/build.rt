@@ -9,7 +9,7 @@ ghost use Rattle.std.specs.Prelude.{◌≡◌, IfErr, IfOk, IfSome, OnOk, Some, 
 use crate::options::{Asked, GroundFile, Options};
 use anyhow::{Context, Error};
 use ground::GroundBook;
-use model::SiteModel;
+use model::GroundModel;
 use pile::{Pile, Three, Unlaid, lay_all};
 use promise::{Plan, Unplanned};
 use refusal::{Refusal, Refused};
@@ -35,15 +35,15 @@ pub fn pile<R: Files + AllocGlobal>(
 }
 
 // All the books on the ground model, the first one lowest; their files, in the same order, are for the error.
-fn laid(
-    ground: GroundBook,
+fn laid<G: GroundModel + Drop>(
+    ground: G,
     books: &[WishBook],
     files: &[&str],
-) -> anyhow::Result<Three<GroundBook>>
+) -> anyhow::Result<Three<G>>
     ensures bottom { IfOk result (λ pile. ground_of pile ≡ ground) }
     ensures floors { IfOk result (λ pile. HasFloors pile books.now) }
-    ensures all { OnOk result (AllLaid (GroundBook.SiteModel.meaning ground) books.now) }
-    ensures refused { IfErr result (NamesRefused (GroundBook.SiteModel.meaning ground) books.now (λ floor. option_map (λ file. file.now) (slice_get files.now floor))) }
+    ensures all { OnOk result (AllLaid (G.SiteModel.meaning ground) books.now) }
+    ensures refused { IfErr result (NamesRefused (G.SiteModel.meaning ground) books.now (λ floor. option_map (λ file. file.now) (slice_get files.now floor))) }
 {
     match lay_all(ground, books) {
         Ok(pile) => Ok(pile),

@@ -151,7 +151,11 @@ impl fmt::Display for Same {
 
 fn opening(rt: &impl Print, plan: &Plan, sight: Sight, same: bool) -> anyhow::Result<()> {
     let advice = Advised(plan.advice(&Walker::open(plan.book())));
-    println!(rt; "  The walk is opened. {} {} {advice}", Seen(sight), Same(same))?;
+    println!(rt;
+        "  The walk is opened. {} {} {advice}",
+        Seen(sight),
+        Same(same)
+    )?;
     Ok(())
 }
 

@@ -152,9 +152,9 @@ impl<'a> Options<'a> {
         let horizon = self
             .horizon
             .context("a number of slots is wanted: --horizon N")?;
-        let weighing = self
-            .weighing
-            .context("a weighing is wanted: --weighing mean or --weighing worst")?;
+        let weighing = self.weighing.context(
+            "a weighing is wanted: --weighing mean or --weighing worst",
+        )?;
         Ok(Asked { horizon, weighing })
     }
 

@@ -107,7 +107,11 @@ pub fn plan(rt: &impl Print, plan: &Plan) -> anyhow::Result<()> {
     let states = plan.written().states;
     let worth = plan.worth();
     let figure = figure_of(plan);
-    let kind = if plan.unit() == 1 { "least" } else { "expected" };
+    let kind = if plan.unit() == 1 {
+        "least"
+    } else {
+        "expected"
+    };
     println!(rt; "a plan of {horizon} slots on a book of {states} states")?;
     println!(rt; "the start is worth {worth}: the {kind} sum of discounted rewards is {figure}")?;
     println!(rt; "what to do in each state, slot by slot:")?;
