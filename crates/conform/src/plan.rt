@@ -5,7 +5,7 @@ use crate::lists::Numbers;
 use crate::numbers::{number, places};
 use crate::out::BEFORE;
 use pile::Pile;
-use promise::{Planned, Tables, plan_pile};
+use promise::{Plan, Tables, plan_pile};
 use slotplan::{STATES, WORDS};
 use std::alloc::Global;
 use weighing::{Mean, Weighing, Worst};
@@ -29,7 +29,7 @@ pub fn answer(heap: Global, words: &[&str]) -> Result<String, Failure> {
     };
     let worths = listed(worths.as_slice());
     let choices = listed(choices.as_slice());
-    Ok(format!(in heap; "ok {} {worths} | {choices}", planned.worth)?)
+    Ok(format!(in heap; "ok {} {worths} | {choices}", planned.worth())?)
 }
 
 // A table; nothing stands for an empty one.
@@ -45,7 +45,7 @@ pub fn planned<P: Pile, W: Weighing>(
     horizon: usize,
     worths: &mut [i64],
     choices: &mut [u8],
-) -> Result<Planned, Failure> {
+) -> Result<Plan, Failure> {
     let mut codes = vec![in heap; 0; STATES]?;
     let mut bytes = vec![in heap; 0; 4 * WORDS]?;
     let mut tables = Tables {

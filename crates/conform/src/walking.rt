@@ -4,8 +4,8 @@ use crate::failure::Failure;
 use crate::numbers::number;
 use crate::plan::planned;
 use model::SiteModel;
-use outbook::OriginBook;
 use pile::Pile;
+use promise::Plan;
 use refusal::Refusal;
 use slotplan::STATES;
 use std::alloc::Global;
@@ -90,9 +90,9 @@ pub fn answer(heap: Global, words: &[&str]) -> Result<String, Failure> {
     let calls = calls_of(heap, calls)?;
     let pile = build(heap, kind, hex, wishes)?.pile;
     let on_pile = walked(heap, &pile, calls.as_slice())?;
-    match book(heap, &pile) {
-        Ok(book) => {
-            let in_book = walked(heap, &book, calls.as_slice())?;
+    match empty_plan(heap, &pile) {
+        Ok(plan) => {
+            let in_book = walked(heap, plan.book(), calls.as_slice())?;
             Ok(format!(in heap; "{on_pile} | {in_book}")?)
         }
         Err(Failure::Unwritable) => Ok(format!(in heap; "{on_pile} | {}", Failure::Unwritable)?),
@@ -111,10 +111,10 @@ fn calls_of(heap: Global, words: &str) -> Result<Vec<Call>, Failure> {
     Ok(calls)
 }
 
-// The book of a pile as it reads back, with nothing planned on it.
-fn book<P: Pile>(heap: Global, pile: &P) -> Result<OriginBook, Failure> {
+// A plan of no slots, for the book of a pile as it reads back.
+fn empty_plan<P: Pile>(heap: Global, pile: &P) -> Result<Plan, Failure> {
     let mut worths = vec![in heap; 0; STATES]?;
-    Ok(planned(heap, pile, &Worst, 0, worths.as_mut_slice(), &mut [])?.book)
+    planned(heap, pile, &Worst, 0, worths.as_mut_slice(), &mut [])
 }
 
 // What the walk has after its opening, and after each call.

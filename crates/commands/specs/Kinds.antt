@@ -1,0 +1,28 @@
+-- The kinds of books, and what checking a file as a book of one ends with.
+use Rattle.commands.specs.declared.check.Kind.{Kind}
+use Rattle.commands.specs.declared.check.Kind.TheVariants.{Site, Rule, Wish}
+use Rattle.commands.specs.Status.{status_of}
+use Rattle.rulelayout.specs.Layout.{rule_format}
+use Rattle.sitelayout.specs.Layout.{site_format}
+use Rattle.std.specs.Prelude.{◌≡◌, ◌⊎◌, ℕ, List, codes}
+use Rattle.wishlayout.specs.Layout.{wish_format}
+use Rattle.words.specs.Format.{reading}
+
+-- the word for a kind
+abbrev pub kind_word : Kind → List ℕ
+kind_word Site = codes "site"
+kind_word Rule = codes "rule"
+kind_word Wish = codes "wish"
+
+-- the status is what the kind's format says of the bytes; want of memory may refuse a good site book, and a bad one never ends with 0
+abbrev pub Tells : Kind → List ℕ → ℕ → Type 0
+Tells Site bytes status = (status ≡ status_of (reading site_format bytes)) ⊎ (status ≡ 1)
+Tells Rule bytes status = status ≡ status_of (reading rule_format bytes)
+Tells Wish bytes status = status ≡ status_of (reading wish_format bytes)
+
+-- the same of a file, whatever it holds, and of the kind that a word names
+pub record TellsFile (word : List ℕ) (status : ℕ) : Type 0 where
+  pub kind : Kind
+  pub named : word ≡ kind_word kind
+  pub bytes : List ℕ
+  pub tells : Tells kind bytes status
