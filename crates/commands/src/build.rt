@@ -43,7 +43,9 @@ fn laid<G: GroundModel + Drop>(
     ensures bottom { IfOk result (λ pile. ground_of pile ≡ ground) }
     ensures floors { IfOk result (λ pile. HasFloors pile books.now) }
     ensures all { OnOk result (AllLaid (G.SiteModel.meaning ground) books.now) }
-    ensures refused { IfErr result (NamesRefused (G.SiteModel.meaning ground) books.now (λ floor. option_map (λ file. file.now) (slice_get files.now floor))) }
+    ensures refused { IfErr result
+        (NamesRefused (G.SiteModel.meaning ground) books.now
+        (λ floor. option_map (λ file. file.now) (slice_get files.now floor))) }
 {
     match lay_all(ground, books) {
         Ok(pile) => Ok(pile),
@@ -53,7 +55,8 @@ fn laid<G: GroundModel + Drop>(
 
 // Why a book is not laid, with its file.
 fn named(unlaid: Unlaid, files: &[&str]) -> Error
-    ensures { IfSome (option_map (λ file. file.now) (slice_get files.now unlaid.floor)) (λ file. HasMessage (Some file) result) }
+    ensures { IfSome (option_map (λ file. file.now) (slice_get files.now unlaid.floor))
+        (λ file. HasMessage (Some file) result) }
 {
     let file = files.get(unlaid.floor).copied().unwrap_or("");
     refused(unlaid.refusal).context(format_args!("{file}"))
@@ -83,7 +86,9 @@ fn wish<R: Files + AllocGlobal>(rt: &R, file: &str) -> anyhow::Result<WishBook> 
 
 // The plan that is asked for.
 pub fn plan<P: Pile>(heap: Global, pile: &P, asked: Asked) -> anyhow::Result<Plan>
-    ensures { IfOk result (IsPlanOf (weigh_of asked.weighing) (P.Pile.base pile.now) (P.Pile.floors pile.now) (P.SiteModel.meaning pile.now) asked.horizon) }
+    ensures { IfOk result
+        (IsPlanOf (weigh_of asked.weighing) (P.Pile.base pile.now) (P.Pile.floors pile.now)
+        (P.SiteModel.meaning pile.now) asked.horizon) }
 {
     plan_by(heap, pile, asked.weighing, asked.horizon).map_err(unplanned)
 }

@@ -81,7 +81,8 @@ fn told<B: Drop, E: Display + Drop, F: FnOnce(&B) -> anyhow::Result<()>>(
 
 // Want of memory may refuse a good site book; a bad one never ends with 0.
 fn site<R: Print + AllocGlobal>(rt: &R, bytes: &[u8]) -> anyhow::Result<u8>
-    ensures { IfOk result (λ status. (status ≡ status_of (reading site_format bytes.now)) ⊎ (status ≡ 1)) }
+    ensures { IfOk result
+        (λ status. (status ≡ status_of (reading site_format bytes.now)) ⊎ (status ≡ 1)) }
 {
     told(rt, read_site(rt.alloc(), bytes), |book| {
         sizes(rt, "site", book)

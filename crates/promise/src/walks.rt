@@ -56,25 +56,45 @@ pub fn plan_and_walk<P: Pile, W: Weighing>(
     tables: &mut Tables,
     walks: &mut Walks,
 ) -> Journey
-    ensures answer { PlansAs (W.meaning weighing.now) (P.SiteModel.meaning pile.now) horizon tables.old result.plan }
-    ensures tables { TablesLeft (W.meaning weighing.now) (P.SiteModel.meaning pile.now) horizon result.plan tables.old tables.new }
-    ensures on_pile { StepsTold (P.Pile.base pile.now) (P.Pile.floors pile.now) numbers.now walks.old.on_pile.now walks.new.on_pile.now }
-    ensures in_book { StepsInBook (P.Pile.base pile.now) (P.Pile.floors pile.now) numbers.now result.plan walks.old.in_book.now walks.new.in_book.now }
-    ensures course_on_pile { CourseTold (P.Pile.base pile.now) (P.Pile.floors pile.now) numbers.now result.on_pile }
-    ensures course_in_book { CourseInBook (P.Pile.base pile.now) (P.Pile.floors pile.now) numbers.now result.plan result.in_book }
+    ensures answer { PlansAs (W.meaning weighing.now) (P.SiteModel.meaning pile.now) horizon
+        tables.old result.plan }
+    ensures tables { TablesLeft (W.meaning weighing.now) (P.SiteModel.meaning pile.now) horizon
+        result.plan tables.old tables.new }
+    ensures on_pile { StepsTold (P.Pile.base pile.now) (P.Pile.floors pile.now) numbers.now
+        walks.old.on_pile.now walks.new.on_pile.now }
+    ensures in_book { StepsInBook (P.Pile.base pile.now) (P.Pile.floors pile.now) numbers.now
+        result.plan walks.old.in_book.now walks.new.in_book.now }
+    ensures course_on_pile { CourseTold (P.Pile.base pile.now) (P.Pile.floors pile.now)
+        numbers.now result.on_pile }
+    ensures course_in_book { CourseInBook (P.Pile.base pile.now) (P.Pile.floors pile.now)
+        numbers.now result.plan result.in_book }
     ensures lent { TablesStay tables.old tables.new × WalksStay walks.old walks.new }
-    ensures plan { IfOk result.plan (IsPlanOf (W.meaning weighing.now) (P.Pile.base pile.now) (P.Pile.floors pile.now) (P.SiteModel.meaning pile.now) horizon) }
-    ensures chooses { OnOk result.plan (ChoosesLowest (W.meaning weighing.now) (book_model (P.SiteModel.meaning pile.now)) horizon tables.new.worths.now tables.new.choices.now) }
-    ensures free { OnOk result.plan (NothingHeld (W.meaning weighing.now) (book_model (P.SiteModel.meaning pile.now)) horizon tables.new.worths.now) }
+    ensures plan { IfOk result.plan
+        (IsPlanOf (W.meaning weighing.now) (P.Pile.base pile.now) (P.Pile.floors pile.now)
+        (P.SiteModel.meaning pile.now) horizon) }
+    ensures chooses { OnOk result.plan
+        (ChoosesLowest (W.meaning weighing.now) (book_model (P.SiteModel.meaning pile.now)) horizon
+        tables.new.worths.now tables.new.choices.now) }
+    ensures free { OnOk result.plan
+        (NothingHeld (W.meaning weighing.now) (book_model (P.SiteModel.meaning pile.now)) horizon
+        tables.new.worths.now) }
     ensures faithful { Faithfully (P.SiteModel.meaning pile.now) }
-    ensures corresponds { Corresponds (P.Pile.base pile.now) (P.Pile.floors pile.now) (P.SiteModel.meaning pile.now) }
-    ensures agrees_on_pile { AgreeOnPile (P.Pile.base pile.now) (P.Pile.floors pile.now) (P.SiteModel.meaning pile.now) }
-    ensures agrees_in_book { AgreeInBook (P.Pile.base pile.now) (P.Pile.floors pile.now) (P.SiteModel.meaning pile.now) }
-    ensures stands_on_pile { StandsOnPile (P.Pile.base pile.now) (P.Pile.floors pile.now) (P.SiteModel.meaning pile.now) }
-    ensures stands_in_book { StandsInBook (P.Pile.base pile.now) (P.Pile.floors pile.now) (P.SiteModel.meaning pile.now) }
-    ensures best { BestInBook (P.Pile.base pile.now) (P.Pile.floors pile.now) (P.SiteModel.meaning pile.now) }
-    ensures earns { PlanEarns (W.meaning weighing.now) (P.Pile.base pile.now) (P.Pile.floors pile.now) (P.SiteModel.meaning pile.now) horizon tables.new result.plan }
-    ensures nobody { NobodyEarnsMore (W.meaning weighing.now) (P.Pile.base pile.now) (P.Pile.floors pile.now) horizon result.plan }
+    ensures corresponds { Corresponds (P.Pile.base pile.now) (P.Pile.floors pile.now)
+        (P.SiteModel.meaning pile.now) }
+    ensures agrees_on_pile { AgreeOnPile (P.Pile.base pile.now) (P.Pile.floors pile.now)
+        (P.SiteModel.meaning pile.now) }
+    ensures agrees_in_book { AgreeInBook (P.Pile.base pile.now) (P.Pile.floors pile.now)
+        (P.SiteModel.meaning pile.now) }
+    ensures stands_on_pile { StandsOnPile (P.Pile.base pile.now) (P.Pile.floors pile.now)
+        (P.SiteModel.meaning pile.now) }
+    ensures stands_in_book { StandsInBook (P.Pile.base pile.now) (P.Pile.floors pile.now)
+        (P.SiteModel.meaning pile.now) }
+    ensures best { BestInBook (P.Pile.base pile.now) (P.Pile.floors pile.now)
+        (P.SiteModel.meaning pile.now) }
+    ensures earns { PlanEarns (W.meaning weighing.now) (P.Pile.base pile.now)
+        (P.Pile.floors pile.now) (P.SiteModel.meaning pile.now) horizon tables.new result.plan }
+    ensures nobody { NobodyEarnsMore (W.meaning weighing.now) (P.Pile.base pile.now)
+        (P.Pile.floors pile.now) horizon result.plan }
 {
     let on_pile = replay(pile, numbers, &mut *walks.on_pile);
     let plan = plan_pile(heap, pile, weighing, horizon, tables);

@@ -17,11 +17,15 @@ pub fn write_pile<P: Pile>(
     codes: &mut [u64],
     bytes: &mut [u8],
 ) -> Result<Written, Refusal>
-    ensures answer { result ≡ outcome (P.SiteModel.meaning pile.now) (length codes.old) (length bytes.old) }
-    ensures codes { codes.new ≡ left result (length codes.old) (codes_of (P.SiteModel.meaning pile.now)) }
-    ensures bytes { bytes.new ≡ left result (length bytes.old) (file (site_words (out_book (P.SiteModel.meaning pile.now)))) }
+    ensures answer { result ≡ outcome (P.SiteModel.meaning pile.now) (length codes.old)
+        (length bytes.old) }
+    ensures codes { codes.new ≡ left result (length codes.old)
+        (codes_of (P.SiteModel.meaning pile.now)) }
+    ensures bytes { bytes.new ≡ left result (length bytes.old)
+        (file (site_words (out_book (P.SiteModel.meaning pile.now)))) }
     ensures faithful { Faithfully (P.SiteModel.meaning pile.now) }
-    ensures corresponds { Corresponds (P.Pile.base pile.now) (P.Pile.floors pile.now) (P.SiteModel.meaning pile.now) }
+    ensures corresponds { Corresponds (P.Pile.base pile.now) (P.Pile.floors pile.now)
+        (P.SiteModel.meaning pile.now) }
 {
     write_out(pile, codes, bytes)
 }

@@ -11,7 +11,9 @@ use model::SiteModel;
 // Opens a walk, gives it the numbers in order, and closes it where it can be closed. The table takes what each number did, and what the
 // walk had after it, for as many numbers as it has places.
 pub fn replay<M: SiteModel>(model: &M, numbers: &[u32], steps: &mut [Step]) -> Course
-    ensures steps { steps.new ≡ run discount_of (M.SiteModel.meaning model.now) (begun discount_of (M.SiteModel.meaning model.now)) (take (length steps.old) numbers.now) ++ drop (length numbers.now) steps.old }
+    ensures steps { steps.new ≡ run discount_of (M.SiteModel.meaning model.now)
+        (begun discount_of (M.SiteModel.meaning model.now)) (take (length steps.old) numbers.now) ++
+        drop (length numbers.now) steps.old }
     ensures course { CourseOn discount_of (M.SiteModel.meaning model.now) numbers.now result }
 {
     let opening = Walker::open(model).sight(model);
@@ -22,8 +24,11 @@ pub fn replay<M: SiteModel>(model: &M, numbers: &[u32], steps: &mut [Step]) -> C
 
 // Opens a walk and gives it the numbers in order, as many as the table has places for.
 fn stepped<M: SiteModel>(model: &M, numbers: &[u32], steps: &mut [Step]) -> Walker
-    ensures steps { steps.new ≡ run discount_of (M.SiteModel.meaning model.now) (begun discount_of (M.SiteModel.meaning model.now)) (take (length steps.old) numbers.now) ++ drop (length numbers.now) steps.old }
-    ensures walker { walk_of result ≡ reached discount_of (M.SiteModel.meaning model.now) (begun discount_of (M.SiteModel.meaning model.now)) (take (length steps.old) numbers.now) }
+    ensures steps { steps.new ≡ run discount_of (M.SiteModel.meaning model.now)
+        (begun discount_of (M.SiteModel.meaning model.now)) (take (length steps.old) numbers.now) ++
+        drop (length numbers.now) steps.old }
+    ensures walker { walk_of result ≡ reached discount_of (M.SiteModel.meaning model.now)
+        (begun discount_of (M.SiteModel.meaning model.now)) (take (length steps.old) numbers.now) }
 {
     let mut walker = Walker::open(model);
     let given = &numbers[..numbers.len().min(steps.len())];
@@ -43,7 +48,8 @@ fn stepped<M: SiteModel>(model: &M, numbers: &[u32], steps: &mut [Step]) -> Walk
 
 // Gives a walk further numbers, of which nothing is told.
 fn led<M: SiteModel>(model: &M, walker: Walker, numbers: &[u32]) -> Walker
-    ensures { walk_of result ≡ reached discount_of (M.SiteModel.meaning model.now) (walk_of walker) numbers.now }
+    ensures { walk_of result ≡ reached discount_of (M.SiteModel.meaning model.now) (walk_of walker)
+        numbers.now }
 {
     let mut walker = walker;
     for number in numbers {

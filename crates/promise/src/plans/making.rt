@@ -30,7 +30,8 @@ use writeout::Written;
 fn read_back(heap: Global, bytes: &[u8], words: usize) -> Result<OriginBook, Unplanned>
     requires room { 4 * words ≤ length bytes.now }
     requires whole { (b : Site) × (reading site_format (take (4 * words) bytes.now) ≡ got b) }
-    ensures book { IfOk result (λ k. reading site_format (take (4 * words) bytes.now) ≡ got (contents k.book)) }
+    ensures book { IfOk result
+        (λ k. reading site_format (take (4 * words) bytes.now) ≡ got (contents k.book)) }
     ensures memory { IfErr result OutOfMemory }
 {
     let book = read_site(heap, &bytes[..4 * words])?;
@@ -55,12 +56,21 @@ fn fill<M: Numbered, W: Weighing>(
     kept: &mut Vec<u8>,
 ) -> Result<i64, Refusal>
     requires { length kept.old.items ≤ length choices.old }
-    ensures answer { result ≡ answer_of (W.meaning weighing.now) (M.SiteModel.meaning book.now) horizon (length worths.old) (length choices.old) }
-    ensures worths { Left result (worth_at (W.meaning weighing.now) (M.SiteModel.meaning book.now) horizon) ((horizon + 1) * (M.SiteModel.meaning book.now).span) worths.old worths.new }
-    ensures choices { Left result (choice_at (W.meaning weighing.now) (M.SiteModel.meaning book.now) horizon) (horizon * (M.SiteModel.meaning book.now).span) choices.old choices.new }
-    ensures nobody { NobodyBetter (W.meaning weighing.now) (M.SiteModel.meaning book.now) horizon choices.new result }
-    ensures chooses { OnOk result (ChoosesLowest (W.meaning weighing.now) (M.SiteModel.meaning book.now) horizon worths.new choices.new) }
-    ensures free { OnOk result (NothingHeld (W.meaning weighing.now) (M.SiteModel.meaning book.now) horizon worths.new) }
+    ensures answer { result ≡ answer_of (W.meaning weighing.now) (M.SiteModel.meaning book.now)
+        horizon (length worths.old) (length choices.old) }
+    ensures worths { Left result
+        (worth_at (W.meaning weighing.now) (M.SiteModel.meaning book.now) horizon)
+        ((horizon + 1) * (M.SiteModel.meaning book.now).span) worths.old worths.new }
+    ensures choices { Left result
+        (choice_at (W.meaning weighing.now) (M.SiteModel.meaning book.now) horizon)
+        (horizon * (M.SiteModel.meaning book.now).span) choices.old choices.new }
+    ensures nobody { NobodyBetter (W.meaning weighing.now) (M.SiteModel.meaning book.now) horizon
+        choices.new result }
+    ensures chooses { OnOk result
+        (ChoosesLowest (W.meaning weighing.now) (M.SiteModel.meaning book.now) horizon worths.new
+        choices.new) }
+    ensures free { OnOk result
+        (NothingHeld (W.meaning weighing.now) (M.SiteModel.meaning book.now) horizon worths.new) }
     ensures kept { OnOk result (kept.new.items ≡ take (length kept.old.items) choices.new) }
 {
     let worth = plan(book, weighing, horizon, worths, &mut *choices)?;
@@ -88,12 +98,18 @@ fn prepare<P: Pile>(
     worths: usize,
     choices: usize,
 ) -> Result<Ready, Unplanned>
-    ensures answer { ReadyAs (P.SiteModel.meaning pile.now) horizon (length codes.old) (length bytes.old) worths choices result }
+    ensures answer { ReadyAs (P.SiteModel.meaning pile.now) horizon (length codes.old)
+        (length bytes.old) worths choices result }
     ensures room { IfOk result (λ r. r.choices.items ≡ replicate (horizon * r.written.states) 0) }
-    ensures codes { codes.new ≡ left (outcome (P.SiteModel.meaning pile.now) (length codes.old) (length bytes.old)) (length codes.old) (codes_of (P.SiteModel.meaning pile.now)) }
-    ensures bytes { bytes.new ≡ left (outcome (P.SiteModel.meaning pile.now) (length codes.old) (length bytes.old)) (length bytes.old) (file (site_words (out_book (P.SiteModel.meaning pile.now)))) }
+    ensures codes { codes.new ≡ left
+        (outcome (P.SiteModel.meaning pile.now) (length codes.old) (length bytes.old))
+        (length codes.old) (codes_of (P.SiteModel.meaning pile.now)) }
+    ensures bytes { bytes.new ≡ left
+        (outcome (P.SiteModel.meaning pile.now) (length codes.old) (length bytes.old))
+        (length bytes.old) (file (site_words (out_book (P.SiteModel.meaning pile.now)))) }
     ensures faithful { Faithfully (P.SiteModel.meaning pile.now) }
-    ensures corresponds { Corresponds (P.Pile.base pile.now) (P.Pile.floors pile.now) (P.SiteModel.meaning pile.now) }
+    ensures corresponds { Corresponds (P.Pile.base pile.now) (P.Pile.floors pile.now)
+        (P.SiteModel.meaning pile.now) }
 {
     let written = write_pile(pile, codes, &mut *bytes)?;
     check_sizes(written.states, horizon, worths, choices)?;
@@ -114,17 +130,29 @@ pub fn plan_pile<P: Pile, W: Weighing>(
     horizon: usize,
     tables: &mut Tables,
 ) -> Result<Plan, Unplanned>
-    ensures answer { PlansAs (W.meaning weighing.now) (P.SiteModel.meaning pile.now) horizon tables.old result }
-    ensures tables { TablesLeft (W.meaning weighing.now) (P.SiteModel.meaning pile.now) horizon result tables.old tables.new }
+    ensures answer { PlansAs (W.meaning weighing.now) (P.SiteModel.meaning pile.now) horizon
+        tables.old result }
+    ensures tables { TablesLeft (W.meaning weighing.now) (P.SiteModel.meaning pile.now) horizon
+        result tables.old tables.new }
     ensures lent { TablesStay tables.old tables.new }
-    ensures plan { IfOk result (IsPlanOf (W.meaning weighing.now) (P.Pile.base pile.now) (P.Pile.floors pile.now) (P.SiteModel.meaning pile.now) horizon) }
-    ensures chooses { OnOk result (ChoosesLowest (W.meaning weighing.now) (book_model (P.SiteModel.meaning pile.now)) horizon tables.new.worths.now tables.new.choices.now) }
-    ensures free { OnOk result (NothingHeld (W.meaning weighing.now) (book_model (P.SiteModel.meaning pile.now)) horizon tables.new.worths.now) }
+    ensures plan { IfOk result
+        (IsPlanOf (W.meaning weighing.now) (P.Pile.base pile.now) (P.Pile.floors pile.now)
+        (P.SiteModel.meaning pile.now) horizon) }
+    ensures chooses { OnOk result
+        (ChoosesLowest (W.meaning weighing.now) (book_model (P.SiteModel.meaning pile.now)) horizon
+        tables.new.worths.now tables.new.choices.now) }
+    ensures free { OnOk result
+        (NothingHeld (W.meaning weighing.now) (book_model (P.SiteModel.meaning pile.now)) horizon
+        tables.new.worths.now) }
     ensures faithful { Faithfully (P.SiteModel.meaning pile.now) }
-    ensures corresponds { Corresponds (P.Pile.base pile.now) (P.Pile.floors pile.now) (P.SiteModel.meaning pile.now) }
-    ensures best { BestInBook (P.Pile.base pile.now) (P.Pile.floors pile.now) (P.SiteModel.meaning pile.now) }
-    ensures earns { PlanEarns (W.meaning weighing.now) (P.Pile.base pile.now) (P.Pile.floors pile.now) (P.SiteModel.meaning pile.now) horizon tables.new result }
-    ensures nobody { NobodyEarnsMore (W.meaning weighing.now) (P.Pile.base pile.now) (P.Pile.floors pile.now) horizon result }
+    ensures corresponds { Corresponds (P.Pile.base pile.now) (P.Pile.floors pile.now)
+        (P.SiteModel.meaning pile.now) }
+    ensures best { BestInBook (P.Pile.base pile.now) (P.Pile.floors pile.now)
+        (P.SiteModel.meaning pile.now) }
+    ensures earns { PlanEarns (W.meaning weighing.now) (P.Pile.base pile.now)
+        (P.Pile.floors pile.now) (P.SiteModel.meaning pile.now) horizon tables.new result }
+    ensures nobody { NobodyEarnsMore (W.meaning weighing.now) (P.Pile.base pile.now)
+        (P.Pile.floors pile.now) horizon result }
 {
     let (worths, choices) = (tables.worths.len(), tables.choices.len());
     let Ready {
