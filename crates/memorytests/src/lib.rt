@@ -3,7 +3,7 @@
 #![tactic(auto)]
 
 #[cfg(test)]
-mod planning;
+mod plans;
 #[cfg(test)]
 mod reading;
 #[cfg(test)]
