@@ -3,12 +3,10 @@ ghost use Rattle.slotplan.specs.Planning.{PlansOr, Surveyed, weigh_of};
 ghost use Rattle.std.specs.Prelude.{◌≡◌, IfOk, length};
 
 use crate::WeighBy;
-use crate::written::{STATES, WORDS};
+use crate::written::{STATES, WORDS, check_states};
 use pile::Pile;
 use promise::{Plan, Tables, Unplanned, plan_pile};
-use reach::search;
 use refusal::Refusal;
-use register::Register;
 use std::alloc::{AllocError, Global};
 use weighing::{Mean, Weighing, Worst};
 
@@ -40,14 +38,11 @@ impl Room {
     }
 }
 
-// Whether a plan can be made, before anything is allocated: too many states, and then too long a horizon. The states are listed in a
-// table on the stack.
+// Whether a plan can be made, before anything is allocated: too many states, and then too long a horizon.
 fn survey<P: Pile>(pile: &P, horizon: usize) -> Result<(), Refusal>
     ensures { Surveyed (P.SiteModel.meaning pile.now) horizon result }
 {
-    let mut codes = [0u64; STATES];
-    let mut found = Register::new(&mut codes);
-    search(pile, &mut found)?;
+    check_states(pile)?;
     if horizon > SLOTS {
         return Err(Refusal::HorizonTooLong);
     }

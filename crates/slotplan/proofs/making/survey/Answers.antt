@@ -1,15 +1,10 @@
-use Rattle.std.proofs.Common.{◌≡◌, length, Err, sym, subst, inl, arith, rules}
-use Rattle.reach.specs.Adding.{room_in}
-use Rattle.reach.specs.Reached.{MoreThan}
+use Rattle.std.proofs.Common.{◌≡◌, Err, sym, subst, inl, rules}
 use Rattle.slotplan.specs.Planning.{Surveyed}
 use Rattle.slotplan.proofs.making.survey.Goals as goal
 
-pub returns-in_err-search : goal.returns-in_err-search
-returns-in_err-search g c =
-    let m = g.P.SiteModel.meaning c.args.pile.now in
-    let why = c.in_err-search.field-0.0 in
-    let over = c.in_err-search.ensures.answer in
-    let size : length c.new-found.result.keys.now ≡ 4096 = search rules in
-    let room : room_in (length c.new-found.result.keys.now) ≡ 4096 = omega (arith, size) in
+pub returns-in_err-check_states : goal.returns-in_err-check_states
+returns-in_err-check_states g c =
+    let why = c.in_err-check_states.field-0.0 in
+    let over = c.in_err-check_states.ensures in
     let is : c.from_residual.result ≡ Err why = search rules in
-    subst (Surveyed m c.args.horizon) (sym is) (inl (over.0, subst (MoreThan m) room over.2))
+    subst (Surveyed (g.P.SiteModel.meaning c.args.pile.now) c.args.horizon) (sym is) (inl over)

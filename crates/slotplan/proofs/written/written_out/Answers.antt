@@ -10,8 +10,8 @@ overflow_mul-written g c =
     let t = told m c.in-Ok.written c.write_pile.result _ _ c.in-Ok.is c.write_pile.ensures.answer in
     omega (arith, size, t.1.1.1)
 
-pub returns-in-Ok : goal.returns-in-Ok
-returns-in-Ok g c =
+pub returns-in-Ok-clause-holds : goal.returns-in-Ok-clause-holds
+returns-in-Ok-clause-holds g c =
     let m = g.P.SiteModel.meaning c.args.pile.now in
     let w = c.in-Ok.written in
     let told = c.write_pile.ensures in
@@ -25,10 +25,10 @@ returns-in-Ok g c =
       ),
     )
 
-pub returns-in-Err : goal.returns-in-Err
-returns-in-Err g c =
+pub returns-in-Err-write_pile-clause-holds : goal.returns-in-Err-write_pile-clause-holds
+returns-in-Err-write_pile-clause-holds g c =
     let codes : length c.as_mut_slice.result.now ≡ 4096 = search rules in
     let bytes : length c.as_mut_slice-2.result.now ≡ 1212424 = search rules in
     let told = c.write_pile.ensures in
-    let over = passed (g.P.SiteModel.meaning c.args.pile.now) (g.met.P.SiteModel.lawful c.args.pile.now) c.in-Err.refusal c.write_pile.result _ _ codes bytes c.in-Err.is told.answer in
+    let over = passed (g.P.SiteModel.meaning c.args.pile.now) (g.met.P.SiteModel.lawful c.args.pile.now) c.in-Err-write_pile.refusal c.write_pile.result _ _ codes bytes c.in-Err-write_pile.is told.answer in
     (over.0, told.faithful.exceeds 4096 over.1)
