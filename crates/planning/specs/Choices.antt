@@ -5,7 +5,7 @@ use Rattle.weighing.specs.Discounts.{discount_of}
 use Rattle.weighing.specs.Weighings.{Weigh, held, mean, worst, free_mean, free_worst}
 use Rattle.worth.specs.declared.Pick.{Pick}
 use Rattle.worth.specs.Choosing.{Picks}
-use Rattle.worth.specs.Worths.{joined, own_part, worth_by}
+use Rattle.worth.specs.Worths.{joined, own_part, worth_by, worth_of}
 
 -- the worth that stands in the table for a state with k slots left
 abbrev pub worth_in : Model → List ℤ → ℕ → ℕ → ℤ
@@ -29,6 +29,16 @@ pub record ChoosesLowest (w : Weigh) (m : Model) (horizon : ℕ) (worths : List 
   pub picks : (k s : ℕ) → 1 ≤ k → k ≤ horizon → s < m.span → Picks (m.offered s) (value_in w m worths k s) m.actions (pick_in w m worths choices k s)
   pub worth : (k s : ℕ) → 1 ≤ k → k ≤ horizon → s < m.span → worth_in m worths k s ≡ held (own_part w discount_of horizon k (m.reward s) +ℤ (pick_in w m worths choices k s).value)
   pub last : (s : ℕ) → s < m.span → worth_in m worths 0 s ≡ own_part w discount_of horizon 0 (m.reward s)
+
+-- the value of an action by the backward rule, with no table of worths
+abbrev pub value_of : Weigh → Model → ℕ → ℕ → ℕ → ℕ → ℤ
+value_of w m horizon k s a = joined w (worth_of w discount_of m horizon (k - 1)) (m.outcomes s a)
+
+-- so is each choice the lowest of the offered actions that reaches the largest value
+abbrev pub PicksLowest : Weigh → Model → ℕ → List ℕ → Type 0
+PicksLowest w m horizon choices =
+    (k s : ℕ) → 1 ≤ k → k ≤ horizon → s < m.span
+    → Picks (m.offered s) (value_of w m horizon k s) m.actions (record { action = choice_in m choices k s; value = value_of w m horizon k s (choice_in m choices k s) })
 
 -- the worths that stand in the table are those of the rule with nothing held
 abbrev pub Unheld : Weigh → Model → ℕ → List ℤ → Type 0

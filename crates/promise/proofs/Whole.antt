@@ -4,9 +4,10 @@ use Rattle.std.specs.Prelude.{vec_items}
 use Rattle.std.proofs.lemmas.Bool.{and_parts, leb-true}
 use Rattle.std.proofs.lemmas.List.{length-take, get_or-take}
 use Rattle.model.specs.Models.{Model}
-use Rattle.outbook.specs.Lawful.{origin_lawful}
+use Rattle.outbook.specs.Lawful.{origin_lawful, origin_numbered}
 use Rattle.pile.specs.Piles.{Floor, shown_on}
 use Rattle.planning.proofs.Better.{nobody_better}
+use Rattle.planning.proofs.Choosing.{picks_lowest}
 use Rattle.planning.specs.Plans.{choice_at, HoldsTo, tables_hold, tabled, unless_refused}
 use Rattle.promise.specs.Corresponding.{Corresponds, book_model, place_in}
 use Rattle.promise.specs.Planning.{PlansAs, ReadyAs, written_in}
@@ -56,6 +57,7 @@ module _ (w : Weigh) (law : LawfulWeigh w) (g : Model) (fs : List Floor) (m : Mo
         worth = worth;
         size = size;
         choices = holds;
+        lowest = picks_lowest w (book_model m) (origin_lawful (out_book m) (faithful.copies few).sound) (origin_numbered (out_book m) (faithful.copies few).sound) h (vec_items p.choices) holds;
         best =
             subst (λ v. Best w discount_of g (shown_on g fs).reward h (policy_of g fs m p) v) (sym worth)
             (subst (λ n. Best w discount_of g (shown_on g fs).reward h (tabled (vec_items p.choices) (book_model m).span (place_in g fs m) n) (worth_of w discount_of (book_model m) h h (book_model m).start)) (sym slots)

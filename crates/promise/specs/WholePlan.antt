@@ -4,6 +4,7 @@
 use Rattle.std.specs.Prelude.{◌≡◌, ℕ, ◌-◌, ◌*◌, cond, ◌&&◌, List, length, Some, None, Option, nat_le, nat_lt, vec_items}
 use Rattle.model.specs.Models.{Model}
 use Rattle.pile.specs.Piles.{Floor, shown_on}
+use Rattle.planning.specs.Choices.{PicksLowest}
 use Rattle.planning.specs.Plans.{choice_at, HoldsTo, tabled}
 use Rattle.promise.specs.Corresponding.{Corresponds, book_model, place_in}
 use Rattle.promise.specs.declared.advising.Advice.{Advice}
@@ -32,9 +33,10 @@ pub record IsPlanOf (w : Weigh) (g : Model) (fs : List Floor) (m : Model) (horiz
   pub slots : p.horizon ≡ horizon
   pub unit : p.unit ≡ w.unit
   pub worth : p.worth ≡ worth_of w discount_of (book_model m) horizon horizon (book_model m).start
-  -- a choice for each listed state and each number of slots left, by the backward rule
+  -- a choice for each listed state and each number of slots left, by the backward rule: the lowest of the best
   pub size : length (vec_items p.choices) ≡ horizon * (book_model m).span
   pub choices : HoldsTo (choice_at w (book_model m) horizon) (horizon * (book_model m).span) (vec_items p.choices)
+  pub lowest : PicksLowest w (book_model m) horizon (vec_items p.choices)
   -- they earn exactly the worth, and no policy that chooses from the whole history earns more
   pub best : Best w discount_of g (shown_on g fs).reward horizon (policy_of g fs m p) p.worth
 
