@@ -1,11 +1,11 @@
 -- A history stands at a state. Where a model unfolds a ground model, each history of the ground model has just one history above it.
-use Rattle.std.proofs.Common.{◌≡◌, ℕ, ◌-◌, ◌<◌, ◌≤◌, true, List, [], ◌∷◌, ◌++◌, map, length, get_or, ℤ, sym, refl, ap, ◌∙◌, subst, append_assoc, arith}
-use Rattle.std.specs.List.{ContainsAt as Has}
-use Rattle.std.proofs.ByRecursion.{has_get_or}
+use Rattle.std.proofs.Common.{◌≡◌, ℕ, ◌-◌, ◌<◌, ◌≤◌, Bool, true, List, [], ◌∷◌, ◌++◌, map, length, get_or, sym, refl, ap, ◌∙◌, subst, append_assoc, arith}
+use Rattle.std.specs.List.{Contains}
+use Rattle.std.proofs.lemmas.List.Elements.{Contains-get_or}
 use Rattle.std.proofs.lemmas.List.{length_push, get_or_push, length-map, get_or-map, map-append}
 use Rattle.model.specs.declared.Outcome.{Outcome}
 use Rattle.model.specs.Models.{Model, Lawful}
-use Rattle.model.specs.Histories.{final, targets_of, History, begun, onward, along, Unfolds, grounds, OnePathAbove}
+use Rattle.model.specs.Histories.{final, targets_of, Shown, History, begun, onward, Path, along, Unfolds, grounds, OnePathAbove}
 use Rattle.model.proofs.Laws.{target_state}
 
 pub final-push : (h : List ℕ) (t : ℕ) → final (h ++ (t ∷ [])) ≡ t
@@ -14,27 +14,27 @@ final-push h t =
     ap (λ k. get_or (h ++ (t ∷ [])) k 0) last ∙ get_or_push h t 0 (length h) refl
 
 -- a history has a state
-pub some_history : (m : Model) (h : List ℕ) → History m h → 1 ≤ length h
-some_history m h begun = omega arith
-some_history m h (onward {h = before} a t hist off has) = omega (arith, length_push before t)
+pub some_history : (g : Model) (offered : List ℕ → ℕ → Bool) (h : List ℕ) → History g offered h → 1 ≤ length h
+some_history g offered h begun = omega arith
+some_history g offered h (onward {h = before} a t hist off has) = omega (arith, length_push before t)
 
--- a history stands at a state
-pub history_state : (m : Model) → Lawful m → (h : List ℕ) → History m h → m.state (final h) ≡ true
-history_state m law h begun = law.starts
-history_state m law h (onward {h = before} a t hist off has) =
-    ap m.state (final-push before t) ∙ target_state m law (final before) a t has
+-- a history stands at a state, whatever narrows what is offered
+pub history_state : (g : Model) → Lawful g → (offered : List ℕ → ℕ → Bool) (h : List ℕ) → History g offered h → g.state (final h) ≡ true
+history_state g law offered h begun = law.states.starts
+history_state g law offered h (onward {h = before} a t hist off has) =
+    ap g.state (final-push before t) ∙ target_state g law (final before) a t has
 
 -- a target of mapped outcomes is the image of a target
-has_image : (f : ℕ → ℕ) (os ps : List Outcome) (t : ℕ) → targets_of ps ≡ map f (targets_of os) → Has (targets_of ps) t → (u : ℕ) × (Has (targets_of os) u × (f u ≡ t))
+has_image : (f : ℕ → ℕ) (os ps : List Outcome) (t : ℕ) → targets_of ps ≡ map f (targets_of os) → Contains (targets_of ps) t → (u : ℕ) × (Contains (targets_of os) u × (f u ≡ t))
 has_image f os ps t same (k, l, at) =
     let size : length (map f (targets_of os)) ≡ length (targets_of os) = length-map (targets_of os) f in
     let inside : k < length (targets_of os) = omega (arith, ap length same, size) in
-    (get_or (targets_of os) k 0, (has_get_or (targets_of os) k 0 inside, sym (get_or-map f (targets_of os) k 0 0 inside) ∙ ap (λ l. get_or l k 0) (sym same) ∙ at 0))
+    (get_or (targets_of os) k 0, (Contains-get_or (targets_of os) k 0 inside, sym (get_or-map f (targets_of os) k 0 t inside) ∙ ap (λ l. get_or l k t) (sym same) ∙ at))
 
-image_has : (f : ℕ → ℕ) (os ps : List Outcome) (u : ℕ) → targets_of ps ≡ map f (targets_of os) → Has (targets_of os) u → Has (targets_of ps) (f u)
+image_has : (f : ℕ → ℕ) (os ps : List Outcome) (u : ℕ) → targets_of ps ≡ map f (targets_of os) → Contains (targets_of os) u → Contains (targets_of ps) (f u)
 image_has f os ps u same (k, l, at) =
     let size : length (map f (targets_of os)) ≡ length (targets_of os) = length-map (targets_of os) f in
-    (k, omega (arith, ap length same, size), λ d. ap (λ l. get_or l k d) same ∙ get_or-map f (targets_of os) k d d l ∙ ap f (at d))
+    (k, omega (arith, ap length same, size), ap (λ l. get_or l k (f u)) same ∙ get_or-map f (targets_of os) k u (f u) l ∙ ap f at)
 
 map-targets : (code : List ℕ → ℕ) (h : List ℕ) (os : List Outcome) → targets_of (map (along code h) os) ≡ map (λ u. code (h ++ (u ∷ []))) (targets_of os)
 map-targets code h [] = refl
@@ -50,15 +50,15 @@ stands-push code done [] t = refl
 stands-push code done (x ∷ h) t =
     ap (λ l. code (done ++ (x ∷ [])) ∷ l) (stands-push code (done ++ (x ∷ [])) h t ∙ ap (λ l. stands code (done ++ (x ∷ [])) h ++ (code l ∷ [])) (append_assoc done (x ∷ []) (h ++ (t ∷ []))))
 
-module _ (g m : Model) (code mask : List ℕ → ℕ) (reward : List ℕ → ℤ) (u : Unfolds g m code mask reward) where
-  outcome_targets : (h : List ℕ) → History g h → (a : ℕ) → targets_of (m.outcomes (code h) a) ≡ map (λ t. code (h ++ (t ∷ []))) (targets_of (g.outcomes (final h) a))
-  outcome_targets h hist a = ap targets_of (u.moves h hist a) ∙ map-targets code h (g.outcomes (final h) a)
+module _ (g : Model) (sh : Shown) (m : Model) (code : List ℕ → ℕ) (u : Unfolds g sh m code) where
+  outcome_targets : (h : List ℕ) → History g sh.offered h → (a : ℕ) → sh.offered h a ≡ true → targets_of (m.outcomes (code h) a) ≡ map (λ t. code (h ++ (t ∷ []))) (targets_of (g.outcomes (final h) a))
+  outcome_targets h hist a off = ap targets_of (u.moves h hist a off) ∙ map-targets code h (g.outcomes (final h) a)
 
   -- what stands over a history of the ground model
   abbrev Over : List ℕ → List ℕ → Type 0
   Over h p = (p ≡ stands code [] h) × ((final p ≡ code h) × (grounds m p ≡ h))
 
-  pub one_over : (h : List ℕ) → History g h → (p : List ℕ) × (History m p × Over h p)
+  pub one_over : (h : List ℕ) → History g sh.offered h → (p : List ℕ) × (Path m p × Over h p)
   one_over h begun =
       (m.start ∷ [], (begun, (ap (λ s. s ∷ []) (sym u.first), (sym u.first, ap (λ s. s ∷ []) (ap m.site (sym u.first) ∙ u.sites (g.start ∷ []) begun)))))
   one_over h (onward {h = before} a t hist off has) =
@@ -66,8 +66,8 @@ module _ (g m : Model) (code mask : List ℕ → ℕ) (reward : List ℕ → ℤ
       let p = up.0 in
       let told = up.1.1 in
       let offered : m.offered (final up.0) a ≡ true = ap (λ s. m.offered s a) told.1.0 ∙ u.offers before hist a ∙ off in
-      let target : Has (targets_of (m.outcomes (final up.0) a)) (code (before ++ (t ∷ []))) =
-      subst (λ s. Has (targets_of (m.outcomes s a)) (code (before ++ (t ∷ [])))) (sym told.1.0) (image_has (λ t. code (before ++ (t ∷ []))) (g.outcomes (final before) a) (m.outcomes (code before) a) t (outcome_targets before hist a) has) in (
+      let target : Contains (targets_of (m.outcomes (final up.0) a)) (code (before ++ (t ∷ []))) =
+      subst (λ s. Contains (targets_of (m.outcomes s a)) (code (before ++ (t ∷ [])))) (sym told.1.0) (image_has (λ t. code (before ++ (t ∷ []))) (g.outcomes (final before) a) (m.outcomes (code before) a) t (outcome_targets before hist a off) has) in (
         up.0 ++ (code (before ++ (t ∷ [])) ∷ []),
         (
           onward a (code (before ++ (t ∷ []))) up.1.0 offered target,
@@ -81,7 +81,7 @@ module _ (g m : Model) (code mask : List ℕ → ℕ) (reward : List ℕ → ℤ
         ),
       )
 
-  pub under_one : (p : List ℕ) → History m p → (h : List ℕ) × (History g h × Over h p)
+  pub under_one : (p : List ℕ) → Path m p → (h : List ℕ) × (History g sh.offered h × Over h p)
   under_one p begun =
       (g.start ∷ [], (begun, (ap (λ s. s ∷ []) (sym u.first), (sym u.first, ap (λ s. s ∷ []) (ap m.site (sym u.first) ∙ u.sites (g.start ∷ []) begun)))))
   under_one p (onward {h = before} a t hist off has) =
@@ -89,9 +89,10 @@ module _ (g m : Model) (code mask : List ℕ → ℕ) (reward : List ℕ → ℤ
       let h = down.0 in
       let told = down.1.1 in
       let here : m.offered (code down.0) a ≡ true = ap (λ s. m.offered s a) (sym told.1.0) ∙ off in
-      let there : Has (targets_of (m.outcomes (code down.0) a)) t = subst (λ s. Has (targets_of (m.outcomes s a)) t) told.1.0 has in
-      let found = has_image (λ t. code (down.0 ++ (t ∷ []))) (g.outcomes (final down.0) a) (m.outcomes (code down.0) a) t (outcome_targets down.0 down.1.0 a) there in
-      let longer : History g (down.0 ++ (found.0 ∷ [])) = onward a found.0 down.1.0 (sym (u.offers down.0 down.1.0 a) ∙ here) found.1.0 in (
+      let there : Contains (targets_of (m.outcomes (code down.0) a)) t = subst (λ s. Contains (targets_of (m.outcomes s a)) t) told.1.0 has in
+      let open_here : sh.offered down.0 a ≡ true = sym (u.offers down.0 down.1.0 a) ∙ here in
+      let found = has_image (λ t. code (down.0 ++ (t ∷ []))) (g.outcomes (final down.0) a) (m.outcomes (code down.0) a) t (outcome_targets down.0 down.1.0 a open_here) there in
+      let longer : History g sh.offered (down.0 ++ (found.0 ∷ [])) = onward a found.0 down.1.0 open_here found.1.0 in (
         down.0 ++ (found.0 ∷ []),
         (
           longer,
@@ -105,13 +106,13 @@ module _ (g m : Model) (code mask : List ℕ → ℕ) (reward : List ℕ → ℤ
         ),
       )
 
-  -- each history of the ground model has just one above it
-  pub one_path_above : OnePathAbove g m
+  -- each history has just one path above it
+  pub one_path_above : OnePathAbove g sh m
   one_path_above = record {
     one = λ h hist. let up = one_over h hist in (up.0, (up.1.0, up.1.1.1.1));
     only = λ p q hp hq same.
         let a = under_one p hp in
         let b = under_one q hq in
         a.1.1.0 ∙ ap (stands code []) (sym a.1.1.1.1 ∙ same ∙ b.1.1.1.1) ∙ sym b.1.1.0;
-    below = λ p hp. let a = under_one p hp in subst (History g) (sym a.1.1.1.1) a.1.0;
+    below = λ p hp. let a = under_one p hp in subst (History g sh.offered) (sym a.1.1.1.1) a.1.0;
   }
