@@ -7,7 +7,8 @@ use Rattle.walk.specs.declared.states.Standing.{Standing}
 use Rattle.walk.specs.declared.walker.Turned.{Turned}
 use Rattle.walk.specs.declared.walker.Walker.{Walker}
 use Rattle.walk.specs.declared.walker.Walker.TheVariants as walker
-use Rattle.walk.specs.Walker.{Stand, Walk, standing, choosing, Turn, goes, refuses}
+use Rattle.walk.specs.Turns.{Turn, goes, refuses}
+use Rattle.walk.specs.Walker.{Stand, Walk, standing, choosing}
 
 abbrev pub stand_of : Standing → Stand
 stand_of s = record { state = s.state; slot = s.slot; total = s.total }
