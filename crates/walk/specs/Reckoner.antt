@@ -64,7 +64,9 @@ reckon_step discount sh t = record { refusal = t.refused; sight = reckoner_has d
 
 unfoldable pub reckon_run : (ℕ → ℕ) → Model → Shown → Reckoner → List ℕ → List Step
 reckon_run discount g sh r [] = []
-reckon_run discount g sh r (n ∷ ns) = reckon_step discount sh (reckon_turn g sh r n) ∷ reckon_run discount g sh (reckon_turn g sh r n).next ns
+reckon_run discount g sh r (n ∷ ns) =
+    reckon_step discount sh (reckon_turn g sh r n)
+    ∷ reckon_run discount g sh (reckon_turn g sh r n).next ns
 
 -- the reckoner after a list of numbers, and the record that he then keeps
 unfoldable pub reckoned_after : Model → Shown → Reckoner → List ℕ → Reckoner
@@ -77,21 +79,27 @@ record_after g sh ns = (reckoned_after g sh (begins g) ns).history
 -- a walk on m and the reckoner over g agree: at the opening, and through every list of numbers, accepted or not
 pub record Agree (discount : ℕ → ℕ) (g : Model) (sh : Shown) (m : Model) : Type 0 where
   pub opening : walk_has m (begun discount m) ≡ reckoner_has discount sh (begins g)
-  pub always : (ns : List ℕ) → run discount m (begun discount m) ns ≡ reckon_run discount g sh (begins g) ns
+  pub always : (ns : List ℕ)
+      → run discount m (begun discount m) ns ≡ reckon_run discount g sh (begins g) ns
 
 -- after the numbers ns a walk on m stands where the record of the reckoner over g leads, with the same choice open, and has what he has
 pub record Beside (discount : ℕ → ℕ) (g : Model) (sh : Shown) (m : Model) (code : List ℕ → ℕ) (ns : List ℕ) : Type 0 where
   pub led : History g sh.offered (record_after g sh ns)
   pub stands : stands_at (reached discount m (begun discount m) ns) ≡ code (record_after g sh ns)
-  pub chosen : chosen_in (reached discount m (begun discount m) ns) ≡ (reckoned_after g sh (begins g) ns).chosen
-  pub has : walk_has m (reached discount m (begun discount m) ns) ≡ reckoner_has discount sh (reckoned_after g sh (begins g) ns)
+  pub chosen : chosen_in (reached discount m (begun discount m) ns)
+      ≡ (reckoned_after g sh (begins g) ns).chosen
+  pub has : walk_has m (reached discount m (begun discount m) ns)
+      ≡ reckoner_has discount sh (reckoned_after g sh (begins g) ns)
 
 abbrev pub StaysBeside : (ℕ → ℕ) → Model → Shown → Model → (List ℕ → ℕ) → Type 0
 StaysBeside discount g sh m code = (ns : List ℕ) → Beside discount g sh m code ns
 
 -- over every model that m unfolds
 abbrev pub AgreesOverAll : Model → Type 0
-AgreesOverAll m = (g : Model) (sh : Shown) (code : List ℕ → ℕ) → Unfolds g sh m code → Agree discount_of g sh m
+AgreesOverAll m =
+    (g : Model) (sh : Shown) (code : List ℕ → ℕ) → Unfolds g sh m code → Agree discount_of g sh m
 
 abbrev pub BesideOverAll : Model → Type 0
-BesideOverAll m = (g : Model) (sh : Shown) (code : List ℕ → ℕ) → Unfolds g sh m code → StaysBeside discount_of g sh m code
+BesideOverAll m =
+    (g : Model) (sh : Shown) (code : List ℕ → ℕ)
+    → Unfolds g sh m code → StaysBeside discount_of g sh m code

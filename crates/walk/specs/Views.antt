@@ -14,7 +14,7 @@ abbrev pub stand_of : Standing → Stand
 stand_of s = record { state = s.state; slot = s.slot; total = s.total }
 
 abbrev pub from_of : Chosen → Stand
-from_of c = record { state = c.state; slot = c.slot; total = c.total }
+from_of c = stand_of c.standing
 
 abbrev pub walk_of : Walker → Walk
 walk_of (walker.Standing s) = standing (stand_of s)

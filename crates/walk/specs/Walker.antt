@@ -35,18 +35,27 @@ chosen_in (choosing s a) = Some a
 
 -- discounts are by slot
 abbrev pub opened : (ℕ → ℕ) → Model → Stand
-opened discount m = record { state = m.start; slot = 0; total = pos (discount 0) *ℤ m.reward m.start }
+opened discount m = record {
+  state = m.start;
+  slot = 0;
+  total = pos (discount 0) *ℤ m.reward m.start;
+}
 
 abbrev pub begun : (ℕ → ℕ) → Model → Walk
 begun discount m = standing (opened discount m)
 
 -- a choice: refused in the last slot, then where the action is not offered
 abbrev pub choice : Model → Stand → ℕ → Turn Walk
-choice m s a = turned (choice_refusal (nat_lt s.slot 12) (m.offered s.state) a) (standing s) (choosing s a)
+choice m s a =
+    turned (choice_refusal (nat_lt s.slot 12) (m.offered s.state) a) (standing s) (choosing s a)
 
 -- an outcome moves on by one slot and adds that slot's reward
 abbrev pub arrived : (ℕ → ℕ) → Model → Stand → Outcome → Stand
-arrived discount m s o = record { state = o.target; slot = s.slot + 1; total = s.total +ℤ (pos (discount (s.slot + 1)) *ℤ m.reward o.target) }
+arrived discount m s o = record {
+  state = o.target;
+  slot = s.slot + 1;
+  total = s.total +ℤ (pos (discount (s.slot + 1)) *ℤ m.reward o.target);
+}
 
 abbrev pub told : (ℕ → ℕ) → Model → Stand → ℕ → Option Outcome → Turn Walk
 told discount m s a (Some o) = goes (standing (arrived discount m s o))
@@ -62,7 +71,12 @@ turn discount m (choosing s a) n = telling discount m s a n
 
 -- what a walk has: the site state is the ground of the present state
 abbrev pub sight_of : Model → Stand → Sight
-sight_of m s = record { site = m.site s.state; slot = s.slot; reward = m.reward s.state; total = s.total }
+sight_of m s = record {
+  site = m.site s.state;
+  slot = s.slot;
+  reward = m.reward s.state;
+  total = s.total;
+}
 
 abbrev pub walk_has : Model → Walk → Sight
 walk_has m (standing s) = sight_of m s
@@ -80,7 +94,8 @@ step m t = record { refusal = t.refused; sight = walk_has m t.next }
 -- a run of numbers: the step of each
 unfoldable pub run : (ℕ → ℕ) → Model → Walk → List ℕ → List Step
 run discount m w [] = []
-run discount m w (n ∷ ns) = step m (turn discount m w n) ∷ run discount m (turn discount m w n).next ns
+run discount m w (n ∷ ns) =
+    step m (turn discount m w n) ∷ run discount m (turn discount m w n).next ns
 
 -- where it leads
 unfoldable pub reached : (ℕ → ℕ) → Model → Walk → List ℕ → Walk

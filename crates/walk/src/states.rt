@@ -22,12 +22,9 @@ pub struct Standing {
 /// A walk with an action chosen, whose outcome is not told yet.
 #[derive(Drop)]
 pub struct Chosen {
-    state: u64,
-    slot: usize,
-    total: i32,
+    standing: Standing,
     action: u32,
-    ghost slots: { slot < 12 },
-    ghost small: { unsigned_abs total ≤ (slot + 1) * 512000 },
+    ghost slots: { standing.slot < 12 },
 }
 
 impl Standing {
@@ -63,11 +60,8 @@ impl Standing {
         if !model.offers(self.state, action) {
             return Err(Refused::new(Refusal::NotOffered, self));
         }
-        let Standing { state, slot, total } = self;
         Ok(Chosen {
-            state,
-            slot,
-            total,
+            standing: self,
             action,
         })
     }
@@ -105,14 +99,15 @@ impl Chosen {
         ensures { telling_of result ≡
             telling discount_of (M.SiteModel.meaning model.now) (from_of self) self.action number }
     {
-        let Some(outcome) = model.outcomes(self.state, self.action).get(number as usize) else {
+        let Standing { state, slot, total } = &self.standing;
+        let Some(outcome) = model.outcomes(*state, self.action).get(number as usize) else {
             return Err(Refused::new(Refusal::NoSuchOutcome, self));
         };
-        let slot = self.slot + 1;
+        let next = *slot + 1;
         Ok(Standing {
             state: outcome.target,
-            slot,
-            total: self.total + counted(model, slot, outcome.target),
+            slot: next,
+            total: *total + counted(model, next, outcome.target),
         })
     }
 
@@ -120,13 +115,13 @@ impl Chosen {
     pub fn state(&self) -> u64
         ensures { result ≡ (from_of self.now).state }
     {
-        self.state
+        self.standing.state()
     }
 
     /// What the walk has, as before the choice.
     pub fn sight<M: SiteModel>(&self, model: &M) -> Sight
         ensures { result ≡ sight_of (M.SiteModel.meaning model.now) (from_of self.now) }
     {
-        look(model, self.state, self.slot, self.total)
+        self.standing.sight(model)
     }
 }
