@@ -26,26 +26,10 @@ pub origin_lawful : (b : Site) → valid b ≡ true → Lawful (by_origin b)
 origin_lawful b v =
     let law = site_lawful b v in
     record {
-      starts = law.starts;
-      within = law.within;
-      acts = law.acts;
-      offers = law.offers;
-      waits = law.waits;
-      some = law.some;
-      few = law.few;
-      targets = law.targets;
-      apart = law.apart;
-      weighed = law.weighed;
-      whole = law.whole;
-      labelled = law.labelled;
-      narrow = law.narrow;
-      bounded = law.bounded;
-      modest = law.modest;
-      grounded = origin_below b v;
-      no_mask = law.no_mask;
-      no_reward = law.no_reward;
-      no_ground = λ s e. ap (λ (m : Mark). m.worth.origin) (past_blank b s (ltb-false s (length b.marks) e));
-      silent = law.silent;
+      states = law.states;
+      moves = law.moves;
+      shows = law.shows;
+      grounds = record { grounded = origin_below b v; no_ground = λ s e. ap (λ (m : Mark). m.worth.origin) (past_blank b s (ltb-false s (length b.marks) e)) };
     }
 
 pub origin_numbered : (b : Site) → valid b ≡ true → NumberedBy (by_origin b)

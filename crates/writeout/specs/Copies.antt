@@ -1,8 +1,8 @@
 -- What a book that is written out says of the model: its states are the places of the listed states, and masks, rewards, offers,
 -- outcomes in order and origins are those of the listed states. So it unfolds whatever the model unfolds.
-use Rattle.std.specs.Prelude.{◌≡◌, ℕ, ◌<◌, true, List, map, length, ℤ, nat_eq, slice_index, slice_index_or}
+use Rattle.std.specs.Prelude.{◌≡◌, ℕ, ◌<◌, true, List, map, length, nat_eq, slice_index, slice_index_or}
 use Rattle.model.specs.declared.Outcome.{Outcome}
-use Rattle.model.specs.Histories.{Unfolds}
+use Rattle.model.specs.Histories.{Shown, Unfolds}
 use Rattle.model.specs.Models.{Model}
 use Rattle.register.specs.Keys.{place_of}
 use Rattle.sitelayout.specs.Site.{Site, valid}
@@ -26,25 +26,13 @@ pub record Copies (m : Model) (codes : List ℕ) (b : Site) : Type 0 where
 
 -- the book as a model whose site states are the origins
 abbrev pub by_origin : Site → Model
-by_origin b = record {
-  start = (site_model b).start;
-  state = (site_model b).state;
-  mask = (site_model b).mask;
-  reward = (site_model b).reward;
-  site = origin_of b;
-  offered = (site_model b).offered;
-  outcomes = (site_model b).outcomes;
-  labels = (site_model b).labels;
-  actions = (site_model b).actions;
-  bound = (site_model b).bound;
-  span = (site_model b).span;
-}
+by_origin b = record (site_model b) { site = origin_of b }
 
 -- the place in the book at which a history stands
 abbrev pub placed : List ℕ → (List ℕ → ℕ) → List ℕ → ℕ
 placed codes code h = place_of nat_eq (code h) codes
 
--- whatever ground model m unfolds, the book unfolds by origins, with the same masks and rewards
+-- whatever ground model m unfolds, the book unfolds by origins, with the same masks, rewards and offers
 abbrev pub CarriesOver : Model → List ℕ → Site → Type 0
 CarriesOver m codes b =
-    (g : Model) (code mask : List ℕ → ℕ) (reward : List ℕ → ℤ) → Unfolds g m code mask reward → Unfolds g (by_origin b) (placed codes code) mask reward
+    (g : Model) (sh : Shown) (code : List ℕ → ℕ) → Unfolds g sh m code → Unfolds g sh (by_origin b) (placed codes code)

@@ -1,12 +1,14 @@
 -- What writing out answers, and what it leaves in the two tables.
-use Rattle.std.specs.Prelude.{◌≡◌, ℕ, ◌+◌, ◌*◌, ◌<◌, ◌≤◌, min, Bool, cond, List, [], ◌∷◌, ◌++◌, length, Some, None, Ok, Err, Option, Result, nat_lt}
+use Rattle.std.specs.Prelude.{◌≡◌, ℕ, ◌+◌, ◌*◌, ◌<◌, ◌≤◌, Bool, List, [], ◌∷◌, ◌++◌, length, Some, None, Ok, Err, Option, Result, nat_le}
 use Rattle.model.specs.Models.{Model}
 use Rattle.pen.specs.Bytes.{padded}
 use Rattle.pen.specs.Laid.{counted}
+use Rattle.reach.specs.Adding.{room_in}
 use Rattle.reach.specs.Reached.{Lists, MoreThan}
 use Rattle.reach.specs.Search.{codes_of}
 use Rattle.refusal.specs.declared.Refusal.{Refusal}
 use Rattle.refusal.specs.declared.Refusal.TheVariants.{TooManyStates, BookTableShort}
+use Rattle.refusal.specs.Rows.{first_failing, unless}
 use Rattle.sitelayout.specs.Layout.{site_format, site_words}
 use Rattle.sitelayout.specs.Site.{Site}
 use Rattle.words.specs.Format.{file, got, reading}
@@ -23,20 +25,24 @@ Writable m = length (codes_of m) ≤ 4096
 abbrev pub out_book : Model → Site
 out_book m = book_of m (codes_of m)
 
--- more states are listed than the code table or 4,096 holds
-abbrev pub too_many : Model → ℕ → Bool
-too_many m places = nat_lt (min places 4096) (length (codes_of m))
-
 -- the number of words, with head and end
 abbrev pub word_count : Model → ℕ
 word_count m = length (site_words (out_book m)) + 1
 
--- tables of so many places and bytes
+-- the code table and 4,096 have room for the listed states
+abbrev pub enough_places : Model → ℕ → Bool
+enough_places m places = nat_le (length (codes_of m)) (room_in places)
+
+-- the book table has room for the book
+abbrev pub enough_space : Model → ℕ → Bool
+enough_space m space = nat_le (4 * word_count m) space
+
+-- what writing out into tables of so many places and bytes is refused for
+abbrev pub written_refusal : Model → ℕ → ℕ → Option Refusal
+written_refusal m places space = first_failing ((enough_places m places, TooManyStates) ∷ (enough_space m space, BookTableShort) ∷ [])
+
 abbrev pub outcome : Model → ℕ → ℕ → Result Written Refusal
-outcome m places space =
-    cond (too_many m places) (Err TooManyStates)
-    (cond (nat_lt space (4 * word_count m)) (Err BookTableShort)
-    (Ok (record { states = length (codes_of m); words = word_count m })))
+outcome m places space = unless (written_refusal m places space) (record { states = length (codes_of m); words = word_count m })
 
 -- the words of a book, with its end word, where a table of so many bytes holds them
 abbrev pub words_in : ℕ → Site → Option ℕ
