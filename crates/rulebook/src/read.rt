@@ -1,5 +1,5 @@
 // Reading a rule book: one word after another, into a table of at most eight actions of at most eight outcomes.
-ghost use Rattle.std.specs.Prelude.{◌≡◌, ◌<◌, true, ◌&&◌, [], ◌∷◌, ◌++◌, length, ◌==◌};
+ghost use Rattle.std.specs.Prelude.{◌≡◌, ◌<◌, IsTrue, ◌&&◌, [], ◌∷◌, ◌++◌, length, ◌==◌};
 ghost use Rattle.bounded.specs.Listed.{listed};
 ghost use Rattle.words.specs.Format.{Faithful, reading};
 ghost use Rattle.words.specs.Refusing.{RefusesRightly};

@@ -1,5 +1,5 @@
 // Reading a site book: the verdict on the file first, and then the tables.
-ghost use Rattle.std.specs.Prelude.{◌≡◌, true, MatchResult};
+ghost use Rattle.std.specs.Prelude.{◌≡◌, IsTrue, MatchResult};
 ghost use Rattle.words.specs.Format.{Faithful, got, reading};
 ghost use Rattle.words.specs.Refusing.{RefusesRightly};
 ghost use Rattle.sitelayout.specs.Layout.{site_format, site_words, Good, written};
