@@ -9,7 +9,7 @@ use Rattle.promise.specs.Corresponding.{book_model}
 use Rattle.promise.specs.Planning.{ReadyAs, after_writing, unless_unready}
 use Rattle.promise.specs.declared.causes.Unplanned.{Unplanned}
 use Rattle.promise.specs.declared.causes.Unplanned.TheVariants.{Refused, Memory}
-use Rattle.promise.proofs.Rereading.{wrote}
+use Rattle.writeout.proofs.Outcomes.{wrote}
 use Rattle.refusal.specs.declared.Refusal.{Refusal}
 use Rattle.refusal.specs.declared.Refusal.TheVariants.{HorizonTooLong, PlanTableShort}
 use Rattle.writeout.specs.declared.Written.{Written}
