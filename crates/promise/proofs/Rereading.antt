@@ -8,11 +8,11 @@ use Rattle.sitelayout.specs.Layout.{site_format, site_words}
 use Rattle.words.specs.Format.{file, got, reading}
 use Rattle.words.specs.Words.{end_word}
 use Rattle.writeout.specs.declared.Written.{Written}
-use Rattle.writeout.specs.Tables.{Faithfully, outcome, out_book}
+use Rattle.writeout.specs.Tables.{Represents, outcome, out_book}
 use Rattle.writeout.proofs.Outcomes.{wrote}
 
 -- as many bytes as the words have, from the front
-pub rereads : (m : Model) → Faithfully m → (places space : ℕ) (w : Written) → outcome m places space ≡ Ok w → reading site_format (take (4 * w.words) (padded space (file (site_words (out_book m))))) ≡ got (out_book m)
+pub rereads : (m : Model) → Represents m → (places space : ℕ) (w : Written) → outcome m places space ≡ Ok w → reading site_format (take (4 * w.words) (padded space (file (site_words (out_book m))))) ≡ got (out_book m)
 rereads m faithful places space w e =
     let told = wrote m places space w e in
     let bytes = file (site_words (out_book m)) in

@@ -10,7 +10,7 @@ use Rattle.model.proofs.Paths.{final-push}
 use Rattle.register.specs.Keys.{Distinct, Kept, enter, enter_all}
 use Rattle.register.proofs.Identity.{kept_has}
 use Rattle.register.proofs.Keys.{enter_both}
-use Rattle.reach.specs.Reached.{Reached, coming_up, Lists, MoreThan}
+use Rattle.reach.specs.Reached.{Reached, coming_up, ListsReached, MoreThan}
 use Rattle.reach.specs.Search.{leads_to, listed_after, codes_of}
 use Rattle.reach.proofs.Onward.{has_coming, has_leads, has_target, reached_leads, reached_on, reached_start, reached_state}
 use Rattle.reach.proofs.Turns.{codes_are, listed_closed, listed_kept, listed_next, listed_same, listed_start}
@@ -50,7 +50,7 @@ closed_has m law codes kept p (onward {h = before} a t hist off has) =
     subst (Contains codes) (sym (final-push before t)) (kept_has (m.start ∷ coming_up m codes) codes kept t (Contains-append_right (m.start ∷ []) (coming_up m codes) t up))
 
 -- a list whose states have all had their turn is the list of the reached states
-pub turned_lists : (m : Model) → Lawful m → (n : ℕ) → length (listed_after m n) ≤ n → Lists m (listed_after m n)
+pub turned_lists : (m : Model) → Lawful m → (n : ℕ) → length (listed_after m n) ≤ n → ListsReached m (listed_after m n)
 turned_lists m law n l =
     let kept = listed_closed m n l in
     record {
@@ -60,9 +60,9 @@ turned_lists m law n l =
       order = kept;
     }
 
-pub search_lists : (m : Model) → Lawful m → length (codes_of m) ≤ 4096 → Lists m (codes_of m)
+pub search_lists : (m : Model) → Lawful m → length (codes_of m) ≤ 4096 → ListsReached m (codes_of m)
 search_lists m law l =
-    subst (Lists m) (sym (codes_are m)) (turned_lists m law 4096 (omega (arith, ap length (codes_are m))))
+    subst (ListsReached m) (sym (codes_are m)) (turned_lists m law 4096 (omega (arith, ap length (codes_are m))))
 
 -- a list of more than n reached states, at any turn
 pub listed_exceeds : (m : Model) → Lawful m → (k n : ℕ) → n < length (listed_after m k) → MoreThan m n
@@ -73,10 +73,10 @@ search_exceeds m law n l = listed_exceeds m law 4096 n (omega (arith, ap length 
 
 -- what a list of the reached states says of its codes
 
-pub lists_states : (m : Model) → Lawful m → (codes : List ℕ) → Lists m codes → (c : ℕ) → Contains codes c → m.state c ≡ true
+pub lists_states : (m : Model) → Lawful m → (codes : List ℕ) → ListsReached m codes → (c : ℕ) → Contains codes c → m.state c ≡ true
 lists_states m law codes lists c h = reached_state m law c (lists.only c h)
 
-pub lists_targets : (m : Model) → Lawful m → (codes : List ℕ) → Lists m codes → (c a j : ℕ) (d : Outcome) → Contains codes c → j < length (m.outcomes c a) → Contains codes (get_or (m.outcomes c a) j d).target
+pub lists_targets : (m : Model) → Lawful m → (codes : List ℕ) → ListsReached m codes → (c a j : ℕ) (d : Outcome) → Contains codes c → j < length (m.outcomes c a) → Contains codes (get_or (m.outcomes c a) j d).target
 lists_targets m law codes lists c a j d h l =
     lists.every (get_or (m.outcomes c a) j d).target
     (reached_on m law c a (get_or (m.outcomes c a) j d).target (lists.only c h) (has_target (m.outcomes c a) j d l))

@@ -26,6 +26,6 @@ module _ {k : key.Ghosts ℕ} {e : equality.Ghosts ℕ} where
     pub lent : after.keys.ghost_name ≡ before.keys.ghost_name
 
   -- codes are added to the same table
-  pub record Adds (codes : List ℕ) (before after : Register ℕ k e) (answer : Result ⊤ Refusal) : Type 0 where
+  pub record AddsCodes (codes : List ℕ) (before after : Register ℕ k e) (answer : Result ⊤ Refusal) : Type 0 where
     pub added : Added codes before after answer
     pub onto : Onto before after

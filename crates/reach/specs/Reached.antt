@@ -19,7 +19,7 @@ coming_up m (c ∷ cs) = leads_to m c ++ coming_up m cs
 
 -- the codes are exactly the reached states, each once, in the order of the search: the start, and then what the listed states in
 -- turn lead to, each code where it first comes
-pub record Lists (m : Model) (codes : List ℕ) : Type 0 where
+pub record ListsReached (m : Model) (codes : List ℕ) : Type 0 where
   pub once : Distinct codes
   pub only : (c : ℕ) → Contains codes c → Reached m c
   pub every : (c : ℕ) → Reached m c → Contains codes c
@@ -31,5 +31,5 @@ MoreThan m n = (codes : List ℕ) × (Distinct codes × ((n < length codes) × (
 
 -- the answer of a search into a table of so many places: the codes, or there are more
 abbrev pub Searched : Model → ℕ → List ℕ → Result ⊤ Refusal → Type 0
-Searched m room codes (Ok _) = (codes ≡ codes_of m) × ((length codes ≤ room) × Lists m codes)
+Searched m room codes (Ok _) = (codes ≡ codes_of m) × ((length codes ≤ room) × ListsReached m codes)
 Searched m room codes (Err r) = (r ≡ TooManyStates) × (room < length (codes_of m)) × MoreThan m room

@@ -14,7 +14,7 @@ use Rattle.words.specs.Words.{end_word}
 use Rattle.writeout.specs.declared.Written.{Written}
 use Rattle.writeout.proofs.Outcomes.{wrote, not_written}
 use Rattle.writeout.proofs.Wording.{book_most}
-use Rattle.writeout.specs.Tables.{Writable, left, out_book, outcome, word_count}
+use Rattle.writeout.specs.Tables.{Writable, table_after, out_book, outcome, word_count}
 
 -- what the answer tells
 pub told : (m : Model) (w : Written) (r : Result Written Refusal) (places space : ℕ) → r ≡ Ok w → r ≡ outcome m places space
@@ -23,7 +23,7 @@ told m w r places space is answer =
     let out = wrote m places space w (sym answer ∙ is) in
     (out.few, (out.states, (out.words, omega (arith, out.room, out.words))))
 
-pub held : (m : Model) (w : Written) (r : Result Written Refusal) (codes bytes : List ℕ) (places space : ℕ) → r ≡ Ok w → r ≡ outcome m places space → codes ≡ left r places (codes_of m) → bytes ≡ left r space (file (site_words (out_book m)))
+pub held : (m : Model) (w : Written) (r : Result Written Refusal) (codes bytes : List ℕ) (places space : ℕ) → r ≡ Ok w → r ≡ outcome m places space → codes ≡ table_after r places (codes_of m) → bytes ≡ table_after r space (file (site_words (out_book m)))
     → Writable m × ((take w.states codes ≡ codes_of m) × (take (4 * w.words) bytes ≡ file (site_words (out_book m))))
 held m w r codes bytes places space is answer codes-are bytes-are =
     let ws = site_words (out_book m) in
@@ -31,8 +31,8 @@ held m w r codes bytes places space is answer codes-are bytes-are =
     let long : length (file ws) ≡ 4 * w.words = omega (arith, bytes_length (ws ++ (end_word (length ws) ∷ [])), length_push ws (end_word (length ws)), words) in (
       few,
       (
-        ap (take w.states) (codes-are ∙ ap (λ x. left x places (codes_of m)) is) ∙ take_at (codes_of m) _ w.states (sym states),
-        ap (take (4 * w.words)) (bytes-are ∙ ap (λ x. left x space (file ws)) is) ∙ take_at (file ws) _ (4 * w.words) long,
+        ap (take w.states) (codes-are ∙ ap (λ x. table_after x places (codes_of m)) is) ∙ take_at (codes_of m) _ w.states (sym states),
+        ap (take (4 * w.words)) (bytes-are ∙ ap (λ x. table_after x space (file ws)) is) ∙ take_at (file ws) _ (4 * w.words) long,
       ),
     )
 

@@ -12,7 +12,7 @@ use Rattle.sitelayout.specs.declared.Mark.{Mark}
 use Rattle.sitelayout.specs.declared.Move.{Move}
 use Rattle.sitebook.specs.Models.{blank, cell_at, outcome_of}
 use Rattle.writeout.specs.Book.{mark_of, move_to, cell_of, cells_of, book_of}
-use Rattle.writeout.specs.Copies.{meant, Copies}
+use Rattle.writeout.specs.Copies.{outcome_in_model, Copies}
 use Rattle.writeout.proofs.Closed.{Closed, place_code}
 use Rattle.writeout.proofs.Cells.{cell_copied}
 use Rattle.writeout.proofs.Validity.{some_cell, book_valid}
@@ -22,10 +22,10 @@ reward_back : (r : ℤ) → nat_abs r ≤ 2000 → pos (nat_abs (r +ℤ pos 2000
 reward_back r h = omega (arith, ints)
 
 -- outcomes that were put at places and read at them again
-moves_back : (codes : List ℕ) (os : List Outcome) → ((j : ℕ) (d : Outcome) → j < length os → Contains codes (get_or os j d).target) → map (meant codes) (map outcome_of (map (move_to codes) os)) ≡ os
+moves_back : (codes : List ℕ) (os : List Outcome) → ((j : ℕ) (d : Outcome) → j < length os → Contains codes (get_or os j d).target) → map (outcome_in_model codes) (map outcome_of (map (move_to codes) os)) ≡ os
 moves_back codes [] has = refl
 moves_back codes (o ∷ os) has =
-    let here : meant codes (outcome_of (move_to codes o)) ≡ o = ap (λ (t : ℕ). record { target = t; weight = o.weight }) (place_code codes o.target (has 0 o (omega arith))) in
+    let here : outcome_in_model codes (outcome_of (move_to codes o)) ≡ o = ap (λ (t : ℕ). record { target = t; weight = o.weight }) (place_code codes o.target (has 0 o (omega arith))) in
     let rest = moves_back codes os (λ j d h. has (suc j) d (omega arith)) in
     cc
 
@@ -76,5 +76,5 @@ module _ (m : Model) (law : Lawful m) (codes : List ℕ) (from : Closed m codes)
     rewards = λ i h. ap (λ (k : Mark). pos k.worth.raised -ℤ pos 2000) (mark_copied i h) ∙ reward_back (m.reward (get_or codes i 0)) (omega (arith, law.shows.bounded (get_or codes i 0), law.shows.modest));
     origins = λ i h. ap (λ (k : Mark). k.worth.origin) (mark_copied i h);
     offers = λ i a h. ap (λ (c : List Move). not (none c)) (book_cell i a h) ∙ cell_offers (get_or codes i 0) a;
-    moves = λ i a h. ap (λ c. map (meant codes) (map outcome_of c)) (book_cell i a h) ∙ moves_back codes (m.outcomes (get_or codes i 0) a) (λ j d l. from.targets (get_or codes i 0) a j d (Contains-get_or codes i 0 h) l);
+    moves = λ i a h. ap (λ c. map (outcome_in_model codes) (map outcome_of c)) (book_cell i a h) ∙ moves_back codes (m.outcomes (get_or codes i 0) a) (λ j d l. from.targets (get_or codes i 0) a j d (Contains-get_or codes i 0 h) l);
   }

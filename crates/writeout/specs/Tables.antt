@@ -1,10 +1,10 @@
 -- What writing out answers, and what it leaves in the two tables.
-use Rattle.std.specs.Prelude.{◌≡◌, ℕ, ◌+◌, ◌*◌, ◌<◌, ◌≤◌, Bool, List, [], ◌∷◌, ◌++◌, length, Some, None, Ok, Err, Option, Result, nat_le}
+use Rattle.std.specs.Prelude.{◌≡◌, ℕ, ◌+◌, ◌*◌, ◌<◌, ◌≤◌, Bool, List, [], ◌∷◌, ◌++◌, length, Ok, Err, Option, Result, nat_le}
 use Rattle.model.specs.Models.{Model}
 use Rattle.pen.specs.Bytes.{padded}
 use Rattle.pen.specs.Laid.{counted}
 use Rattle.reach.specs.Adding.{room_in}
-use Rattle.reach.specs.Reached.{Lists, MoreThan}
+use Rattle.reach.specs.Reached.{ListsReached, MoreThan}
 use Rattle.reach.specs.Search.{codes_of}
 use Rattle.refusal.specs.declared.Refusal.{Refusal}
 use Rattle.refusal.specs.declared.Refusal.TheVariants.{TooManyStates, BookTableShort}
@@ -48,25 +48,15 @@ outcome m places space = unless (written_refusal m places space) (record { state
 abbrev pub words_in : ℕ → Site → Option ℕ
 words_in space b = counted space (site_words b ++ (end_word (length (site_words b)) ∷ []))
 
--- the table then
-abbrev pub WrittenIn : Option ℕ → List ℕ → Site → Type 0
-WrittenIn None bytes b = Unit {0}
-WrittenIn (Some n) bytes b = bytes ≡ padded (length bytes) (file (site_words b))
-
--- both tables, after an attempt that was not refused
-abbrev pub Leaves : Model → Result Written Refusal → List ℕ → List ℕ → Type 0
-Leaves m (Ok w) codes bytes = (codes ≡ padded (length codes) (codes_of m)) × (bytes ≡ padded (length bytes) (file (site_words (out_book m))))
-Leaves m (Err r) codes bytes = Unit {0}
-
 -- a table of n places afterwards: all 0 on a refusal
-abbrev pub left : Result Written Refusal → ℕ → List ℕ → List ℕ
-left (Ok w) n xs = padded n xs
-left (Err r) n xs = padded n []
+abbrev pub table_after : Result Written Refusal → ℕ → List ℕ → List ℕ
+table_after (Ok w) n xs = padded n xs
+table_after (Err r) n xs = padded n []
 
 -- what the listed codes and the book are worth: the codes are exactly the reached states where these are at most 4,096, and else there
 -- are more than the table holds; the book reads back, and says of each listed state what the model says
-pub record Faithfully (m : Model) : Type 0 where
-  pub lists : Writable m → Lists m (codes_of m)
+pub record Represents (m : Model) : Type 0 where
+  pub lists : Writable m → ListsReached m (codes_of m)
   pub exceeds : (n : ℕ) → n < length (codes_of m) → MoreThan m n
   pub back : Writable m → reading site_format (file (site_words (out_book m))) ≡ got (out_book m)
   pub copies : Writable m → Copies m (codes_of m) (out_book m)
