@@ -66,7 +66,7 @@ search_lists m law l =
 
 -- a list of more than n reached states, at any turn
 pub listed_exceeds : (m : Model) → Lawful m → (k n : ℕ) → n < length (listed_after m k) → MoreThan m n
-listed_exceeds m law k n l = (listed_after m k, (listed_distinct m k, (l, listed_reached m law k)))
+listed_exceeds m law k n l = record { codes = listed_after m k; once = listed_distinct m k; many = l; only = listed_reached m law k }
 
 pub search_exceeds : (m : Model) → Lawful m → (n : ℕ) → n < length (codes_of m) → MoreThan m n
 search_exceeds m law n l = listed_exceeds m law 4096 n (omega (arith, ap length (codes_are m)))

@@ -1,4 +1,5 @@
--- What a search finds, in words that do not speak of searching: the states that some history of the model ends in.
+-- What a search finds, in words that do not speak of searching: the states that some path of the
+-- model ends in.
 use Rattle.std.specs.Prelude.{◌≡◌, ℕ, ◌<◌, ◌≤◌, ⊤, List, [], ◌∷◌, ◌++◌, length, Ok, Err, Result}
 use Rattle.std.specs.List.{Contains}
 use Rattle.model.specs.Histories.{Path, final}
@@ -17,8 +18,8 @@ abbrev pub coming_up : Model → List ℕ → List ℕ
 coming_up m [] = []
 coming_up m (c ∷ cs) = leads_to m c ++ coming_up m cs
 
--- the codes are exactly the reached states, each once, in the order of the search: the start, and then what the listed states in
--- turn lead to, each code where it first comes
+-- the codes are exactly the reached states, each once, in the order of the search: the start, and
+-- then what the listed states in turn lead to, each code where it first comes
 pub record ListsReached (m : Model) (codes : List ℕ) : Type 0 where
   pub once : Distinct codes
   pub only : (c : ℕ) → Contains codes c → Reached m c
@@ -26,8 +27,11 @@ pub record ListsReached (m : Model) (codes : List ℕ) : Type 0 where
   pub order : Kept (m.start ∷ coming_up m codes) codes
 
 -- more than n states are reached
-abbrev pub MoreThan : Model → ℕ → Type 0
-MoreThan m n = (codes : List ℕ) × (Distinct codes × ((n < length codes) × ((c : ℕ) → Contains codes c → Reached m c)))
+pub record MoreThan (m : Model) (n : ℕ) : Type 0 where
+  pub codes : List ℕ
+  pub once : Distinct codes
+  pub many : n < length codes
+  pub only : (c : ℕ) → Contains codes c → Reached m c
 
 -- the answer of a search into a table of so many places: the codes, or there are more
 abbrev pub Searched : Model → ℕ → List ℕ → Result ⊤ Refusal → Type 0

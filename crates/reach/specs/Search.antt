@@ -1,4 +1,5 @@
--- Searching a model from its start: each listed state in turn adds its unlisted targets, actions rising, outcomes in order.
+-- Searching a model from its start: each listed state in turn adds its unlisted targets, actions
+-- rising, outcomes in order.
 use Rattle.std.specs.Prelude.{ℕ, zero, suc, if◌then◌else◌, List, [], ◌∷◌, ◌++◌, length, nat_eq, nat_lt, slice_index}
 use Rattle.model.specs.Histories.{targets_of}
 use Rattle.model.specs.Models.{Model}

@@ -1,5 +1,6 @@
--- What a book that is written out says of the model: its states are the places of the listed states, and masks, rewards, offers,
--- outcomes in order and origins are those of the listed states. So it unfolds whatever the model unfolds.
+-- What a book that is written out says of the model: its states are the places of the listed states,
+-- and masks, rewards, offers, outcomes in order and origins are those of the listed states. So it
+-- unfolds whatever the model unfolds.
 use Rattle.std.specs.Prelude.{◌≡◌, ℕ, ◌<◌, IsTrue, List, map, length, nat_eq, slice_index, slice_index_or}
 use Rattle.model.specs.declared.Outcome.{Outcome}
 use Rattle.model.specs.Histories.{Shown, Unfolds}
@@ -22,7 +23,8 @@ pub record Copies (m : Model) (codes : List ℕ) (b : Site) : Type 0 where
   pub rewards : (i : ℕ) → i < length codes → (site_model b).reward i ≡ m.reward (slice_index codes i)
   pub origins : (i : ℕ) → i < length codes → origin_of b i ≡ m.site (slice_index codes i)
   pub offers : (i a : ℕ) → i < length codes → (site_model b).offered i a ≡ m.offered (slice_index codes i) a
-  pub moves : (i a : ℕ) → i < length codes → map (outcome_in_model codes) ((site_model b).outcomes i a) ≡ m.outcomes (slice_index codes i) a
+  pub moves : (i a : ℕ) → i < length codes
+      → map (outcome_in_model codes) ((site_model b).outcomes i a) ≡ m.outcomes (slice_index codes i) a
 
 -- the book as a model whose site states are the origins
 abbrev pub by_origin : Site → Model
@@ -32,7 +34,9 @@ by_origin b = record (site_model b) { site = origin_of b }
 abbrev pub place_in_book : List ℕ → (List ℕ → ℕ) → List ℕ → ℕ
 place_in_book codes code h = place_of nat_eq (code h) codes
 
--- whatever ground model m unfolds, the book unfolds by origins, with the same masks, rewards and offers
+-- whatever ground model m unfolds, the book unfolds by origins, with the same masks, rewards and
+-- offers
 abbrev pub CarriesOver : Model → List ℕ → Site → Type 0
 CarriesOver m codes b =
-    (g : Model) (sh : Shown) (code : List ℕ → ℕ) → Unfolds g sh m code → Unfolds g sh (by_origin b) (place_in_book codes code)
+    (g : Model) (sh : Shown) (code : List ℕ → ℕ) → Unfolds g sh m code
+    → Unfolds g sh (by_origin b) (place_in_book codes code)

@@ -29,7 +29,7 @@ out_book m = book_of m (codes_of m)
 abbrev pub word_count : Model → ℕ
 word_count m = length (site_words (out_book m)) + 1
 
--- the code table and 4,096 have room for the listed states
+-- the code table, and 4,096, have room for the listed states
 abbrev pub enough_places : Model → ℕ → Bool
 enough_places m places = nat_le (length (codes_of m)) (room_in places)
 
@@ -39,10 +39,16 @@ enough_space m space = nat_le (4 * word_count m) space
 
 -- what writing out into tables of so many places and bytes is refused for
 abbrev pub written_refusal : Model → ℕ → ℕ → Option Refusal
-written_refusal m places space = first_failing ((enough_places m places, TooManyStates) ∷ (enough_space m space, BookTableShort) ∷ [])
+written_refusal m places space =
+    first_failing
+    ((enough_places m places, TooManyStates)
+    ∷ (enough_space m space, BookTableShort)
+    ∷ [])
 
 abbrev pub outcome : Model → ℕ → ℕ → Result Written Refusal
-outcome m places space = unless (written_refusal m places space) (record { states = length (codes_of m); words = word_count m })
+outcome m places space =
+    unless (written_refusal m places space)
+    (record { states = length (codes_of m); words = word_count m })
 
 -- the words of a book, with its end word, where a table of so many bytes holds them
 abbrev pub words_in : ℕ → Site → Option ℕ
@@ -53,8 +59,9 @@ abbrev pub table_after : Result Written Refusal → ℕ → List ℕ → List �
 table_after (Ok w) n xs = padded n xs
 table_after (Err r) n xs = padded n []
 
--- what the listed codes and the book are worth: the codes are exactly the reached states where these are at most 4,096, and else there
--- are more than the table holds; the book reads back, and says of each listed state what the model says
+-- the listed codes and the book stand for the model: the codes are exactly the reached states where
+-- these are at most 4,096, and else there are more than the table holds; the book reads back, and
+-- says of each listed state what the model says
 pub record Represents (m : Model) : Type 0 where
   pub lists : Writable m → ListsReached m (codes_of m)
   pub exceeds : (n : ℕ) → n < length (codes_of m) → MoreThan m n
