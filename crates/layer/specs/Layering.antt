@@ -1,49 +1,49 @@
 -- A layer lays one wish book on any model and is again a model. Its states are a state below and a memory, as one number:
 -- (state below) × 65,536 + memory. The memory of the state arrived at is worked out at the state left.
-use Rattle.std.specs.Prelude.{ℕ, ◌+◌, ◌*◌, ◌/◌, ◌%◌, ◌^◌, Bool, true, cond, ◌&&◌, List, [], map, length, pos, Some, None, Option, nat_le, nat_lt, sum_by, unsigned_abs}
+use Rattle.std.specs.Prelude.{ℕ, ◌+◌, ◌*◌, ◌/◌, ◌%◌, ◌^◌, Bool, true, if◌then◌else◌, ◌&&◌, List, [], ◌∷◌, map, length, pos, Some, None, Option, nat_le, nat_lt, sum_by, unsigned_abs}
+use Rattle.std.specs.Option.{is_none}
 use Rattle.formula.specs.declared.Node.{Node}
-use Rattle.formula.specs.declared.Node.TheVariants.{Label, True, Not, And, Or, Previous, Since, Always, Once}
+use Rattle.formula.specs.declared.Node.TheVariants.{Label}
 use Rattle.model.specs.declared.Outcome.{Outcome}
-use Rattle.model.specs.Models.{Model}
+use Rattle.model.specs.declared.Sizes.{Sizes}
+use Rattle.model.specs.Models.{Model, sizes_of}
 use Rattle.refusal.specs.declared.Refusal.{Refusal}
 use Rattle.refusal.specs.declared.Refusal.TheVariants.{NoSuchLabel, BoundPassed, SpanPassed}
+use Rattle.refusal.specs.Rows.{Row, first_failing}
 use Rattle.wishlayout.specs.declared.Wish.{Wish}
 use Rattle.wishlayout.specs.Wishes.{amount}
 use Rattle.wishbook.specs.Book.{Book}
 use Rattle.words.specs.Tests.{all}
 use Rattle.layer.specs.Judging.{recalled, verdicts, memory_of, bits_of_wishes, earned}
 
--- the labels that a node names are among the model's
+-- the label that a node names, if any, is among so many
 abbrev pub names_label_below : ℕ → Node → Bool
 names_label_below labels (Label p) = nat_lt p labels
-names_label_below labels True = true
-names_label_below labels (Not a) = true
-names_label_below labels (And a b) = true
-names_label_below labels (Or a b) = true
-names_label_below labels (Previous a) = true
-names_label_below labels (Since a b) = true
-names_label_below labels (Always a) = true
-names_label_below labels (Once a) = true
+names_label_below labels _ = true
 
 -- the sizes of all amounts together
 abbrev pub amounts : List Wish → ℕ
 amounts ws = sum_by (λ w. unsigned_abs (amount w)) ws
 
-abbrev pub has_labels : Model → Book → Bool
-has_labels m b = all (names_label_below m.labels) b.nodes && nat_le (m.labels + length b.wishes) 24
+-- the tests of a book, by the sizes of the model below: it names only labels that there are, and each of its wishes gets one more
+abbrev pub labels_fit : Sizes → Book → Bool
+labels_fit z b = all (names_label_below z.labels) b.nodes && nat_le (z.labels + length b.wishes) 24
 
-abbrev pub bound_fits : Model → Book → Bool
-bound_fits m b = nat_le (m.bound + amounts b.wishes) 2000
+abbrev pub bound_fits : Sizes → Book → Bool
+bound_fits z b = nat_le (z.bound + amounts b.wishes) 2000
 
-abbrev pub span_fits : Model → Bool
-span_fits m = nat_le m.span (2 ^ 44)
+abbrev pub span_fits : Sizes → Bool
+span_fits z = nat_le z.span (2 ^ 44)
 
--- why a book cannot be laid on a model: labels, then the bound, then the span
-abbrev pub refusal : Model → Book → Option Refusal
-refusal m b = cond (has_labels m b) (cond (bound_fits m b) (cond (span_fits m) None (Some SpanPassed)) (Some BoundPassed)) (Some NoSuchLabel)
+abbrev pub tests : Sizes → Book → List Row
+tests z b = (labels_fit z b, NoSuchLabel) ∷ ((bound_fits z b, BoundPassed) ∷ ((span_fits z, SpanPassed) ∷ []))
+
+-- why a book cannot be laid on a model of these sizes
+abbrev pub refusal : Sizes → Book → Option Refusal
+refusal z b = first_failing (tests z b)
 
 abbrev pub fits : Model → Book → Bool
-fits m b = has_labels m b && (bound_fits m b && span_fits m)
+fits m b = is_none (refusal (sizes_of m) b)
 
 -- a state of the layer, taken apart
 abbrev pub under : ℕ → ℕ
@@ -71,11 +71,15 @@ abbrev pub layered : Model → Book → Model
 layered m b = record {
   start = m.start * 65536;
   state = is_layer_state m b;
-  mask = λ s. cond (is_layer_state m b s) (m.mask (under s) + 2 ^ m.labels * bits_of_wishes b.wishes (judged m b s)) 0;
-  reward = λ s. cond (is_layer_state m b s) (earned (m.reward (under s)) b.wishes (judged m b s)) (pos 0);
-  site = λ s. cond (is_layer_state m b s) (m.site (under s)) 0;
+  mask = λ s.
+      if is_layer_state m b s then m.mask (under s) + 2 ^ m.labels * bits_of_wishes b.wishes (judged m b s)
+      else 0;
+  reward = λ s.
+      if is_layer_state m b s then earned (m.reward (under s)) b.wishes (judged m b s) else pos 0;
+  site = λ s. if is_layer_state m b s then m.site (under s) else 0;
   offered = λ s a. is_layer_state m b s && m.offered (under s) a;
-  outcomes = λ s a. cond (is_layer_state m b s) (map (lifted m b s) (m.outcomes (under s) a)) [];
+  outcomes = λ s a.
+      if is_layer_state m b s then map (lifted m b s) (m.outcomes (under s) a) else [];
   labels = m.labels + length b.wishes;
   actions = m.actions;
   bound = m.bound + amounts b.wishes;
@@ -85,4 +89,4 @@ layered m b = record {
 -- a book that fits is laid; else, and where there is none, the model below answers
 abbrev pub over : Model → Option Book → Model
 over m None = m
-over m (Some b) = cond (fits m b) (layered m b) m
+over m (Some b) = if fits m b then layered m b else m

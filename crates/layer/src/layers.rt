@@ -5,6 +5,7 @@ ghost use Rattle.wishbook.specs.Contents.{contents};
 ghost use Rattle.layer.specs.Layering.{over, refusal as refusal_of};
 ghost use Rattle.layer.specs.Laying.{meaning_of, Lies, Bare, laid_in, memory_in};
 ghost use Rattle.layer.specs.Lawfulness.{layer_lawful};
+ghost use Rattle.model.specs.Models.{sizes_of};
 
 use crate::over::{MEMORIES, Over};
 use model::{Outcomes, SiteModel, Sizes};
@@ -13,7 +14,7 @@ use wishbook::WishBook;
 
 // Why a book cannot be laid on a model, none where it can.
 pub fn refusal_on<M: SiteModel>(below: &M, book: &WishBook) -> Option<Refusal>
-    ensures { result ≡ refusal_of (M.SiteModel.meaning below.now) (contents book.now) }
+    ensures { result ≡ refusal_of (sizes_of (M.SiteModel.meaning below.now)) (contents book.now) }
 {
     Over::new(below, book).err()
 }
@@ -36,7 +37,8 @@ impl<M: SiteModel> Layer<M> {
 
     // Why the book is not laid, where there is one and it is not.
     pub fn refusal(&self) -> Option<Refusal>
-        ensures { MatchOption self.now.book (result ≡ None) (λ book. result ≡ refusal_of (M.SiteModel.meaning self.now.below) (contents book)) }
+        ensures { MatchOption self.now.book (result ≡ None)
+            (λ book. result ≡ refusal_of (sizes_of (M.SiteModel.meaning self.now.below)) (contents book)) }
     {
         Over::new(&self.below, self.book.as_ref()?).err()
     }

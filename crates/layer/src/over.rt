@@ -1,5 +1,5 @@
 // A wish book on a model that it fits, which is again a model.
-ghost use Rattle.std.specs.Prelude.{◌≡◌, ℕ, ◌+◌, ◌*◌, ◌^◌, ◌<◌, ◌≤◌, true, false, IfOk, MatchOption, map, length, slice_index_or};
+ghost use Rattle.std.specs.Prelude.{◌≡◌, ℕ, ◌+◌, ◌*◌, ◌^◌, ◌<◌, ◌≤◌, true, false, IsTrue, IfOk, MatchOption, map, length, slice_index_or};
 ghost use Rattle.std.specs.Result.{result_err};
 ghost use Rattle.bounded.specs.Listed.{listed};
 ghost use Rattle.model.specs.declared.Outcome.{Outcome as Way};
@@ -8,7 +8,8 @@ ghost use Rattle.layer.specs.Books.{few_items};
 ghost use Rattle.layer.specs.Judged.{JudgedAt};
 ghost use Rattle.layer.specs.Layering.{fits, is_layer_state, layered, memory as memory_in, refusal as refusal_of, under};
 ghost use Rattle.layer.specs.Lawfulness.{layered_lawful};
-ghost use Rattle.layer.specs.Laying.{moved, SizesOf};
+ghost use Rattle.layer.specs.Laying.{moved};
+ghost use Rattle.model.specs.Models.{sizes_of};
 
 use crate::amounts::amounts;
 use crate::fitting::fit;
@@ -25,15 +26,16 @@ pub(crate) struct Over<'a, M: SiteModel> {
     below: &'a M,
     pub(crate) book: &'a WishBook,
     sizes: Sizes,
-    ghost sized: { SizesOf (M.SiteModel.meaning below.now) sizes },
-    ghost fit: { fits (M.SiteModel.meaning below.now) (contents book.now) ≡ true },
+    ghost sized: { sizes ≡ sizes_of (M.SiteModel.meaning below.now) },
+    ghost fit: { IsTrue (fits (M.SiteModel.meaning below.now) (contents book.now)) },
 }
 
 impl<'a, M: SiteModel> Over<'a, M> {
     // The layer, or why the book cannot be laid.
     pub(crate) fn new(below: &'a M, book: &'a WishBook) -> Result<Over<'a, M>, Refusal>
         ensures parts { IfOk result (λ o. (o.below.now ≡ below.now) × (o.book.now ≡ book.now)) }
-        ensures refusal { result_err result ≡ refusal_of (M.SiteModel.meaning below.now) (contents book.now) }
+        ensures refusal { result_err result ≡
+            refusal_of (sizes_of (M.SiteModel.meaning below.now)) (contents book.now) }
     {
         let sizes = below.sizes();
         fit(sizes, book)?;

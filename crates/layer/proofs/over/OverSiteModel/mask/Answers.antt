@@ -14,5 +14,5 @@ join-requires-clause-room g c =
     let j = c.in-Some.judged in
     let here = c.in-Some.ensures.2 in
     let whole : j.mask + 2 ^ o.sizes.labels * c.bits.result ≡ m.mask (under c.args.s) + 2 ^ m.labels * bits_of_wishes (contents o.book.now).wishes (known j)
-    = λ i. here.mask i + 2 ^ o.sized.labels i * (c.bits.ensures ∙ ap (λ (b : WishBook). bits_of_wishes (contents b).wishes (known j)) here.book) i in
+    = λ i. here.mask i + 2 ^ (o.sized i).labels * (c.bits.ensures ∙ ap (λ (b : WishBook). bits_of_wishes (contents b).wishes (known j)) here.book) i in
     subst (λ n. n < 2 ^ 24) (sym whole) (mask_room m (contents o.book.now) (g.met.M.SiteModel.lawful o.below.now) o.fit (under c.args.s) (known j))
