@@ -15,9 +15,9 @@ use Rattle.truth.specs.Truth.{labelled, holds}
 use Rattle.words.specs.Tests.{all}
 use Rattle.words.proofs.Tests.{all_at}
 use Rattle.wishlayout.specs.Wishes.{good_wish}
-use Rattle.layer.specs.Judging.{bit, bits_of, item_held, wish_held, bits_of_wishes}
+use Rattle.layer.specs.Verdicts.{bit, bits_of, item_held, wish_held, bits_of_wishes}
 use Rattle.layer.proofs.Recalling.{high_bits}
-use Rattle.layer.proofs.Verdicts.{item_told}
+use Rattle.layer.proofs.VerdictsRight.{item_told}
 use Rattle.layer.specs.Records.{trace_of, end_of, truths, MemoryTells, WishesShow, LabelsStay}
 
 low : (b : Bool) (m : ℕ) → labelled (bit b + 2 * m) 0 ≡ b

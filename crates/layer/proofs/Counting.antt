@@ -6,7 +6,7 @@ use Rattle.std.proofs.lemmas.List.{at_drop_more}
 use Rattle.std.proofs.lemmas.Int.{fits_signed_from_abs, to_z-of_z}
 use Rattle.wishlayout.specs.declared.Wish.{Wish}
 use Rattle.wishlayout.specs.Wishes.{amount}
-use Rattle.layer.specs.Judging.{bit, bits_of, wish_held, earned}
+use Rattle.layer.specs.Verdicts.{bit, bits_of, wish_held, earned}
 use Rattle.layer.specs.Sizes.{abs_add}
 
 -- a number from bits, with one for each x below those that there are

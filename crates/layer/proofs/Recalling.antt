@@ -7,7 +7,7 @@ use Rattle.std.proofs.lemmas.Nat.Bits.{bit_at_above}
 use Rattle.std.proofs.lemmas.Bool.{cases_Bool, both_ways, and_parts, and_from, or_cases, or_left, or_right, eqb-true, eq-eqb}
 use Rattle.formula.specs.declared.Item.{Item}
 use Rattle.formula.specs.declared.Item.TheVariants.{Held, Failed}
-use Rattle.layer.specs.Judging.{same_item, recalled, bit, item_held, memory_of}
+use Rattle.layer.specs.Verdicts.{same_item, recalled, bit, item_held, memory_of}
 
 same_is : (x y : Item) → same_item x y ≡ true → x ≡ y
 same_is (Held i) (Held j) e = ap Held (eqb-true i j e)

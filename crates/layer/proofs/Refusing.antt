@@ -8,8 +8,8 @@ use Rattle.refusal.specs.declared.Refusal.{Refusal}
 use Rattle.wishbook.specs.declared.book.WishBook.{WishBook}
 use Rattle.wishbook.specs.Book.{Book}
 use Rattle.wishbook.specs.Contents.{contents}
-use Rattle.layer.specs.Layering.{refusal, fits, layered, over}
-use Rattle.layer.specs.Laying.{laid_book}
+use Rattle.layer.specs.Layered.{refusal, fits, layered, over}
+use Rattle.layer.specs.InMemory.{laid_book}
 
 pub fit_is : (m : Model) (b : Book) (o : Option Refusal) → o ≡ refusal (sizes_of m) b → fits m b ≡ is_none o
 fit_is m b o e = ap is_none (sym e)

@@ -19,17 +19,17 @@ use Rattle.wishbook.specs.Book.{Book, items_over}
 use Rattle.wishlayout.specs.declared.Wish.{Wish}
 use Rattle.wishlayout.specs.Wishes.{amount, good_wish}
 use Rattle.words.specs.Tests.{all}
-use Rattle.layer.specs.Judging.{wish_held, recalled, verdict, verdicts_from, verdicts, item_held, memory_of, bits_of_wishes, earned}
+use Rattle.layer.specs.Verdicts.{wish_held, recalled, verdict, verdicts_from, verdicts, item_held, memory_of, bits_of_wishes, earned}
 use Rattle.formula.specs.declared.Item.{Item}
 use Rattle.std.proofs.lemmas.List.Elements.{Contains-append_right}
 use Rattle.std.proofs.lemmas.List.{length-map, get_or-map}
 use Rattle.std.proofs.lemmas.Simd.{map-map}
 use Rattle.words.proofs.Tests.{all_at}
 use Rattle.layer.proofs.Counting.{bits_same}
-use Rattle.layer.specs.Layering.{under, memory, is_layer_state, judged, lifted, layered}
+use Rattle.layer.specs.Layered.{under, memory, is_layer_state, verdicts_at, lifted, layered}
 use Rattle.layer.specs.Records.{trace_of, end_of, truths, memory_at, code_over, shown_over, SoundBook}
 use Rattle.layer.specs.Sizes.{bits_below}
-use Rattle.layer.proofs.Verdicts.{Right, verdicts_right, recalls_at, memory_next, told_at}
+use Rattle.layer.proofs.VerdictsRight.{Right, verdicts_right, recalls_at, memory_next, told_at}
 
 trace_end : (mask : List ℕ → ℕ) (h : List ℕ) → 1 ≤ length h → trace_of mask h (end_of h) ≡ mask h
 trace_end mask h some = ap mask (take_all (length h - 1 + 1) h (omega arith))
@@ -98,27 +98,27 @@ module _ (g : Model) (sh : Shown) (m : Model) (code : List ℕ → ℕ) (u : Unf
     state_is : is_layer_state m book s ≡ true
     state_is = and_from (m.state (under s)) (ltb (memory s) (2 ^ length (items_over ns ws))) (ap m.state under_is ∙ u.states h hist) (ap (λ k. ltb k (2 ^ length (items_over ns ws))) memory_is ∙ lt-ltb mem (2 ^ length (items_over ns ws)) (mem_items n))
 
-    judged_is : judged m book s ≡ verdicts (τ n) (recalled (items_over ns ws) mem) ns
-    judged_is =
+    verdicts_are : verdicts_at m book s ≡ verdicts (τ n) (recalled (items_over ns ws) mem) ns
+    verdicts_are =
         (λ i. verdicts (m.mask (under_is i)) (recalled (items_over ns ws) (memory_is i)) ns)
         ∙ ap (λ k. verdicts k (recalled (items_over ns ws) mem) ns) (u.masks h hist ∙ sym (trace_end sh.mask h some))
 
-    right : Right ns ws ok τ n (judged m book s)
-    right = subst (Right ns ws ok τ n) (sym judged_is) (verdicts_right ns ws ok τ n (recalled (items_over ns ws) mem) (recalls_at ns ws ok τ n))
+    right : Right ns ws ok τ n (verdicts_at m book s)
+    right = subst (Right ns ws ok τ n) (sym verdicts_are) (verdicts_right ns ws ok τ n (recalled (items_over ns ws) mem) (recalls_at ns ws ok τ n))
 
-    judged-length : length (judged m book s) ≡ length ns
-    judged-length = verdicts-length (m.mask (under s)) (recalled (items_over ns ws) (memory s)) [] ns ∙ omega arith
+    verdicts_at-length : length (verdicts_at m book s) ≡ length ns
+    verdicts_at-length = verdicts-length (m.mask (under s)) (recalled (items_over ns ws) (memory s)) [] ns ∙ omega arith
 
     -- the verdicts on the wishes are what the truth lines say
-    wishes_right : (w : Wish) → Contains ws w → wish_held (judged m book s) w ≡ wish_held (truths ns τ n) w
+    wishes_right : (w : Wish) → Contains ws w → wish_held (verdicts_at m book s) w ≡ wish_held (truths ns τ n) w
     wishes_right w has =
         let low = wish_below (length ns) ws w each has in
-        right w.node (omega (arith, judged-length)) ((exact ns roots ok).every w.node low (root (has_node ws w has))) ∙ sym (told_at ns ws ok τ n w.node low)
+        right w.node (omega (arith, verdicts_at-length)) ((exact ns roots ok).every w.node low (root (has_node ws w has))) ∙ sym (told_at ns ws ok τ n w.node low)
 
-    next_memory : (t : ℕ) → memory_of (items_over ns ws) (judged m book s) ≡ memory_at book (trace_of sh.mask (h ++ (t ∷ []))) (end_of (h ++ (t ∷ [])))
+    next_memory : (t : ℕ) → memory_of (items_over ns ws) (verdicts_at m book s) ≡ memory_at book (trace_of sh.mask (h ++ (t ∷ []))) (end_of (h ++ (t ∷ [])))
     next_memory t =
         let end : end_of (h ++ (t ∷ [])) ≡ suc n = omega (arith, length_push h t, some) in
-        memory_next ns ws ok τ n (judged m book s) judged-length right
+        memory_next ns ws ok τ n (verdicts_at m book s) verdicts_at-length right
         ∙ ap (memory_of (items_over ns ws)) (sym (truths_before ns sh.mask h t some))
         ∙ ap (memory_at book (trace_of sh.mask (h ++ (t ∷ [])))) (sym end)
 
@@ -131,12 +131,12 @@ module _ (g : Model) (sh : Shown) (m : Model) (code : List ℕ → ℕ) (u : Unf
     states = λ h hist. state_is h hist;
     sites = λ h hist. ap (λ b. cond b (m.site (under (s h hist))) 0) (state_is h hist) ∙ ap m.site (under_is h hist) ∙ u.sites h hist;
     masks = λ h hist.
-        ap (λ b. cond b (m.mask (under (s h hist)) + 2 ^ m.labels * bits_of_wishes ws (judged m book (s h hist))) 0) (state_is h hist)
-        ∙ (λ i. (ap m.mask (under_is h hist) ∙ u.masks h hist) i + 2 ^ m.labels * bits_same (wish_held (judged m book (s h hist))) (wish_held (truths ns (trace_of sh.mask h) (end_of h))) ws (wishes_right h hist) i);
+        ap (λ b. cond b (m.mask (under (s h hist)) + 2 ^ m.labels * bits_of_wishes ws (verdicts_at m book (s h hist))) 0) (state_is h hist)
+        ∙ (λ i. (ap m.mask (under_is h hist) ∙ u.masks h hist) i + 2 ^ m.labels * bits_same (wish_held (verdicts_at m book (s h hist))) (wish_held (truths ns (trace_of sh.mask h) (end_of h))) ws (wishes_right h hist) i);
     rewards = λ h hist.
-        ap (λ b. cond b (earned (m.reward (under (s h hist))) ws (judged m book (s h hist))) (pos 0)) (state_is h hist)
-        ∙ ap (λ r. earned r ws (judged m book (s h hist))) (ap m.reward (under_is h hist) ∙ u.rewards h hist)
-        ∙ earned_same (sh.reward h) ws (judged m book (s h hist)) (truths ns (trace_of sh.mask h) (end_of h)) (wishes_right h hist);
+        ap (λ b. cond b (earned (m.reward (under (s h hist))) ws (verdicts_at m book (s h hist))) (pos 0)) (state_is h hist)
+        ∙ ap (λ r. earned r ws (verdicts_at m book (s h hist))) (ap m.reward (under_is h hist) ∙ u.rewards h hist)
+        ∙ earned_same (sh.reward h) ws (verdicts_at m book (s h hist)) (truths ns (trace_of sh.mask h) (end_of h)) (wishes_right h hist);
     offers = λ h hist a. ap (λ b. b && m.offered (under (s h hist)) a) (state_is h hist) ∙ ap (λ k. m.offered k a) (under_is h hist) ∙ u.offers h hist a;
     moves = λ h hist a off.
         ap (λ b. cond b (map (lifted m book (s h hist)) (m.outcomes (under (s h hist)) a)) []) (state_is h hist)

@@ -16,8 +16,8 @@ use Rattle.wishbook.specs.Book.{Book}
 use Rattle.wishbook.specs.Contents.{contents}
 use Rattle.words.specs.Tests.{all}
 use Rattle.layer.specs.Books.{kept}
-use Rattle.layer.specs.Judging.{item_held, memory_of, wish_held, bits_of_wishes, earned}
-use Rattle.layer.specs.Layering.{names_label_below, amounts, labels_fit, bound_fits, span_fits, tests, refusal, fits, under, memory, is_layer_state, judged, lifted, layered, over}
+use Rattle.layer.specs.Verdicts.{item_held, memory_of, wish_held, bits_of_wishes, earned}
+use Rattle.layer.specs.Layered.{names_label_below, amounts, labels_fit, bound_fits, span_fits, tests, refusal, fits, under, memory, is_layer_state, verdicts_at, lifted, layered, over}
 use Rattle.layer.specs.Sizes.{bits_below, bits_small, mask_grows, earned_within}
 
 -- what a book that fits leaves room for
@@ -104,11 +104,11 @@ module _ (m : Model) (b : Book) (law : Lawful m) (few : length b.items ≤ 16) (
   targets_law s a j d h =
       let o = get_or (m.outcomes (under s) a) j nowhere in
       ap (λ (x : Outcome). is_layer_state m b x.target) (outs_at s a j d h)
-      ∙ packed_state o.target (memory_of b.items (judged m b s)) (law.moves.targets (under s) a j nowhere (outs_within s a j h)) (bits_below (item_held (judged m b s)) b.items) (bits_small (item_held (judged m b s)) b.items few)
+      ∙ packed_state o.target (memory_of b.items (verdicts_at m b s)) (law.moves.targets (under s) a j nowhere (outs_within s a j h)) (bits_below (item_held (verdicts_at m b s)) b.items) (bits_small (item_held (verdicts_at m b s)) b.items few)
 
   apart_law : (s a j k : ℕ) (d : Outcome) → j < length ((layered m b).outcomes s a) → k < length ((layered m b).outcomes s a) → (get_or ((layered m b).outcomes s a) j d).target ≡ (get_or ((layered m b).outcomes s a) k d).target → j ≡ k
   apart_law s a j k d h g e =
-      let same : (get_or (m.outcomes (under s) a) j nowhere).target * 65536 + memory_of b.items (judged m b s) ≡ (get_or (m.outcomes (under s) a) k nowhere).target * 65536 + memory_of b.items (judged m b s)
+      let same : (get_or (m.outcomes (under s) a) j nowhere).target * 65536 + memory_of b.items (verdicts_at m b s) ≡ (get_or (m.outcomes (under s) a) k nowhere).target * 65536 + memory_of b.items (verdicts_at m b s)
       = sym (ap (λ (x : Outcome). x.target) (outs_at s a j d h)) ∙ e ∙ ap (λ (x : Outcome). x.target) (outs_at s a k d g) in
       law.moves.apart (under s) a j k nowhere (outs_within s a j h) (outs_within s a k g) (omega arith)
 
@@ -135,14 +135,14 @@ module _ (m : Model) (b : Book) (law : Lawful m) (few : length b.items ≤ 16) (
 
   labelled_law : (s : ℕ) → (layered m b).mask s < 2 ^ (m.labels + length b.wishes)
   labelled_law s =
-      cond_both (is_layer_state m b s) (m.mask (under s) + 2 ^ m.labels * bits_of_wishes b.wishes (judged m b s)) 0 (λ n. n < 2 ^ (m.labels + length b.wishes))
-      (λ t. mask_grows m.labels (length b.wishes) (m.mask (under s)) (bits_of_wishes b.wishes (judged m b s)) (law.shows.labelled (under s)) (bits_below (wish_held (judged m b s)) b.wishes))
+      cond_both (is_layer_state m b s) (m.mask (under s) + 2 ^ m.labels * bits_of_wishes b.wishes (verdicts_at m b s)) 0 (λ n. n < 2 ^ (m.labels + length b.wishes))
+      (λ t. mask_grows m.labels (length b.wishes) (m.mask (under s)) (bits_of_wishes b.wishes (verdicts_at m b s)) (law.shows.labelled (under s)) (bits_below (wish_held (verdicts_at m b s)) b.wishes))
       (λ f. pow_pos (m.labels + length b.wishes))
 
   bounded_law : (s : ℕ) → unsigned_abs ((layered m b).reward s) ≤ m.bound + amounts b.wishes
   bounded_law s =
-      cond_both (is_layer_state m b s) (earned (m.reward (under s)) b.wishes (judged m b s)) (pos 0) (λ z. unsigned_abs z ≤ m.bound + amounts b.wishes)
-      (λ t. omega (arith, earned_within (m.reward (under s)) b.wishes (judged m b s), law.shows.bounded (under s)))
+      cond_both (is_layer_state m b s) (earned (m.reward (under s)) b.wishes (verdicts_at m b s)) (pos 0) (λ z. unsigned_abs z ≤ m.bound + amounts b.wishes)
+      (λ t. omega (arith, earned_within (m.reward (under s)) b.wishes (verdicts_at m b s), law.shows.bounded (under s)))
       (λ f. omega arith)
 
   states_law : LawfulStates (layered m b).start (layered m b).state (layered m b).span
@@ -171,8 +171,8 @@ module _ (m : Model) (b : Book) (law : Lawful m) (few : length b.items ≤ 16) (
     narrow = r.labels;
     bounded = bounded_law;
     modest = r.bound;
-    no_mask = λ s f. cond-false (is_layer_state m b s) (m.mask (under s) + 2 ^ m.labels * bits_of_wishes b.wishes (judged m b s)) 0 f;
-    no_reward = λ s f. cond-false (is_layer_state m b s) (earned (m.reward (under s)) b.wishes (judged m b s)) (pos 0) f;
+    no_mask = λ s f. cond-false (is_layer_state m b s) (m.mask (under s) + 2 ^ m.labels * bits_of_wishes b.wishes (verdicts_at m b s)) 0 f;
+    no_reward = λ s f. cond-false (is_layer_state m b s) (earned (m.reward (under s)) b.wishes (verdicts_at m b s)) (pos 0) f;
   }
 
   grounds_law : LawfulGrounds (layered m b).state (layered m b).site

@@ -9,7 +9,7 @@ use Rattle.model.specs.Histories.{Shown}
 use Rattle.truth.specs.Truth.{Trace, labelled, before, holds}
 use Rattle.wishlayout.specs.declared.Wish.{Wish}
 use Rattle.wishbook.specs.Book.{Book, sound, items_over}
-use Rattle.layer.specs.Judging.{memory_of, bits_of_wishes, earned}
+use Rattle.layer.specs.Verdicts.{memory_of, bits_of_wishes, earned}
 
 -- the mask at each position of a history, where mask is what a history shows at its end
 abbrev pub trace_of : (List ℕ → ℕ) → List ℕ → Trace

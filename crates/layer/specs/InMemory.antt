@@ -6,7 +6,7 @@ use Rattle.model.specs.Models.{Model}
 use Rattle.wishbook.specs.Book.{Book}
 use Rattle.wishbook.specs.Contents.{contents}
 use Rattle.layer.specs.declared.layers.Layer.{Layer}
-use Rattle.layer.specs.Layering.{fits, memory, layered, over}
+use Rattle.layer.specs.Layered.{fits, memory, layered, over}
 
 -- an outcome of the model below, with the memory beside its target
 abbrev pub moved : ℕ → Outcome → Outcome

@@ -17,7 +17,7 @@ use Rattle.formula.proofs.Marks.{exact}
 use Rattle.formula.proofs.Trees.{earlier_at, formulas_at, length-formulas}
 use Rattle.truth.specs.Truth.{Trace, before, holds}
 use Rattle.truth.proofs.Unfolding.{since_first, since_next, always_first, always_next, sometime_first, sometime_next}
-use Rattle.layer.specs.Judging.{node_of, recalled, verdict, verdicts_from, verdicts, item_held, memory_of}
+use Rattle.layer.specs.Verdicts.{node_of, recalled, verdict, verdicts_from, verdicts, item_held, memory_of}
 use Rattle.layer.specs.Records.{truths, memory_at, tells}
 use Rattle.wishbook.specs.Book.{Book, items_over}
 use Rattle.wishlayout.specs.declared.Wish.{Wish}

@@ -14,7 +14,7 @@ use Rattle.wishlayout.specs.declared.Wish.{Wish}
 use Rattle.wishlayout.specs.Wishes.{amount}
 use Rattle.wishbook.specs.Book.{Book}
 use Rattle.words.specs.Tests.{all}
-use Rattle.layer.specs.Judging.{recalled, verdicts, memory_of, bits_of_wishes, earned}
+use Rattle.layer.specs.Verdicts.{recalled, verdicts, memory_of, bits_of_wishes, earned}
 
 -- the label that a node names, if any, is among so many
 abbrev pub names_label_below : ℕ → Node → Bool
@@ -59,23 +59,23 @@ is_layer_state m b s = m.state (under s) && nat_lt (memory s) (2 ^ length b.item
 abbrev pub verdicts_in : Book → ℕ → ℕ → List Bool
 verdicts_in b mask memory = verdicts mask (recalled b.items memory) b.nodes
 
--- the verdicts on the nodes in a state
-abbrev pub judged : Model → Book → ℕ → List Bool
-judged m b s = verdicts (m.mask (under s)) (recalled b.items (memory s)) b.nodes
+-- in a state of the layer
+abbrev pub verdicts_at : Model → Book → ℕ → List Bool
+verdicts_at m b s = verdicts_in b (m.mask (under s)) (memory s)
 
 -- where an outcome of the model below leads, from the state s
 abbrev pub lifted : Model → Book → ℕ → Outcome → Outcome
-lifted m b s o = record { target = o.target * 65536 + memory_of b.items (judged m b s); weight = o.weight }
+lifted m b s o = record { target = o.target * 65536 + memory_of b.items (verdicts_at m b s); weight = o.weight }
 
 abbrev pub layered : Model → Book → Model
 layered m b = record {
   start = m.start * 65536;
   state = is_layer_state m b;
   mask = λ s.
-      if is_layer_state m b s then m.mask (under s) + 2 ^ m.labels * bits_of_wishes b.wishes (judged m b s)
+      if is_layer_state m b s then m.mask (under s) + 2 ^ m.labels * bits_of_wishes b.wishes (verdicts_at m b s)
       else 0;
   reward = λ s.
-      if is_layer_state m b s then earned (m.reward (under s)) b.wishes (judged m b s) else pos 0;
+      if is_layer_state m b s then earned (m.reward (under s)) b.wishes (verdicts_at m b s) else pos 0;
   site = λ s. if is_layer_state m b s then m.site (under s) else 0;
   offered = λ s a. is_layer_state m b s && m.offered (under s) a;
   outcomes = λ s a.

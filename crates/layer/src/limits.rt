@@ -1,7 +1,7 @@
 // Whether a wish book can be laid on a model of given sizes.
 ghost use Rattle.std.specs.Prelude.{◌≡◌};
 ghost use Rattle.wishbook.specs.Contents.{contents};
-ghost use Rattle.layer.specs.Layering.{names_label_below, labels_fit, refusal};
+ghost use Rattle.layer.specs.Layered.{names_label_below, labels_fit, refusal};
 ghost use Rattle.std.specs.Result.{result_err};
 ghost use Rattle.words.specs.Tests.{all};
 
