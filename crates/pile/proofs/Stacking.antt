@@ -12,7 +12,7 @@ use Rattle.wishbook.specs.declared.book.WishBook.{WishBook}
 use Rattle.wishbook.specs.Book.{Book}
 use Rattle.wishbook.specs.Contents.{contents}
 use Rattle.layer.specs.Lawfulness.{room}
-use Rattle.layer.specs.Layering.{refusal, fits, layered, over}
+use Rattle.layer.specs.Layered.{refusal, fits, layered, over}
 use Rattle.layer.proofs.Refusing.{fit_is}
 use Rattle.pile.specs.Piles.{piled}
 use Rattle.pile.specs.Stacks.{floor_refusal, floors_in, floor_at, refusal_at, AllLaid, IsFirstRefused}

@@ -19,9 +19,9 @@ use Rattle.words.specs.Tests.{all}
 use Rattle.wishbook.specs.Book.{Book}
 use Rattle.wishlayout.specs.declared.Wish.{Wish}
 use Rattle.wishlayout.specs.Wishes.{amount, good_wish}
-use Rattle.layer.specs.Judging.{item_held, wish_held, earned}
+use Rattle.layer.specs.Verdicts.{item_held, wish_held, earned}
 use Rattle.layer.specs.Lawfulness.{memory_packed, over_lawful}
-use Rattle.layer.specs.Layering.{fits, under, memory, layered, over}
+use Rattle.layer.specs.Layered.{fits, under, memory, layered, over}
 use Rattle.layer.specs.Records.{trace_of, end_of, truths, memory_at, code_over, mask_over, reward_over, tells, SoundBook}
 use Rattle.layer.specs.Sizes.{bits_small}
 use Rattle.layer.proofs.Bits.{memory_tells, wishes_show, labels_stay}

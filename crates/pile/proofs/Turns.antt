@@ -8,7 +8,7 @@ use Rattle.refusal.specs.declared.Refusal.{Refusal}
 use Rattle.wishbook.specs.declared.book.WishBook.{WishBook}
 use Rattle.wishbook.specs.Contents.{contents}
 use Rattle.layer.specs.Lawfulness.{room}
-use Rattle.layer.specs.Layering.{refusal, fits, layered, over}
+use Rattle.layer.specs.Layered.{refusal, fits, layered, over}
 use Rattle.layer.proofs.Refusing.{fit_is}
 use Rattle.pile.specs.Piles.{Floor, piled}
 use Rattle.pile.specs.Pushing.{piled_push}

@@ -6,7 +6,7 @@ use Rattle.model.specs.Models.{Model, Lawful, Ground}
 use Rattle.wishbook.specs.declared.book.WishBook.{WishBook}
 use Rattle.wishbook.specs.Contents.{contents}
 use Rattle.layer.specs.Books.{kept}
-use Rattle.layer.specs.Layering.{over}
+use Rattle.layer.specs.Layered.{over}
 use Rattle.pile.specs.Piles.{Floor, piled, SoundFloor, SoundFloors, Laid}
 
 pub piled_push : (m : Model) (fs : List Floor) (f : Floor) → piled m (fs ++ (f ∷ [])) ≡ over (piled m fs) f

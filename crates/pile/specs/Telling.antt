@@ -11,7 +11,7 @@ use Rattle.truth.specs.Truth.{Trace, labelled, holds, Holds}
 use Rattle.wishbook.specs.Book.{Book}
 use Rattle.wishlayout.specs.declared.Wish.{Wish}
 use Rattle.wishlayout.specs.Wishes.{amount}
-use Rattle.layer.specs.Layering.{fits, under, memory, over}
+use Rattle.layer.specs.Layered.{fits, under, memory, over}
 use Rattle.layer.specs.Records.{end_of}
 use Rattle.pile.specs.Piles.{Floor, piled}
 

@@ -2,7 +2,7 @@
 ghost use Rattle.std.specs.Prelude.{◌≡◌, [], ◌∷◌};
 ghost use Rattle.std.specs.Option.{option_map};
 ghost use Rattle.wishbook.specs.Contents.{contents};
-ghost use Rattle.layer.specs.Laying.{meaning_of};
+ghost use Rattle.layer.specs.InMemory.{meaning_of};
 ghost use Rattle.pile.specs.Piles.{piled};
 ghost use Rattle.pile.specs.Stacks.{ground_of, books_of};
 

@@ -1,5 +1,5 @@
 use Rattle.std.proofs.Common.{◌∷◌, [], ap, ◌∙◌, refl}
-use Rattle.layer.specs.Laying.{meaning_of}
+use Rattle.layer.specs.InMemory.{meaning_of}
 use Rattle.pile.proofs.Stacking.{told}
 use Rattle.pile.proofs.laying.refusals.Goals as goal
 

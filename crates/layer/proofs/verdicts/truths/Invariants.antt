@@ -1,7 +1,7 @@
 -- Judging the nodes that are left gives what judging all gives.
 use Rattle.std.proofs.Common.{◌≡◌, length, take, drop}
-use Rattle.layer.specs.Judging.{recalled, verdicts_from, verdicts}
-use Rattle.layer.proofs.judging.truths.Given as goal
+use Rattle.layer.specs.Verdicts.{recalled, verdicts_from, verdicts}
+use Rattle.layer.proofs.verdicts.truths.Given as goal
 
 abbrev pub invariant-loop-i : goal.invariant-loop-i
 invariant-loop-i l =

@@ -1,8 +1,8 @@
 -- The bits so far belong above those of the items that are left.
 use Rattle.std.proofs.Common.{◌≡◌, ◌-◌, ◌^◌, ◌<◌, ◌≤◌, Bool, length}
-use Rattle.layer.specs.Judging.{bits_of}
+use Rattle.layer.specs.Verdicts.{bits_of}
 use Rattle.layer.proofs.Counting.{bits_onto}
-use Rattle.layer.proofs.counts.number.Given as goal
+use Rattle.layer.proofs.remembering.number.Given as goal
 
 abbrev pub invariant-loop-item : goal.invariant-loop-item
 invariant-loop-item g l = record {

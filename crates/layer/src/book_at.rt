@@ -2,31 +2,31 @@
 // It is one book in one state. `judge`, `remember` and `wish_bits`, which it hands on to, answer for truths of any length.
 ghost use Rattle.std.specs.Prelude.{◌≡◌, length};
 
-use crate::counts::{remember, wish_bits};
-use crate::judging::{at, judge};
+use crate::remembering::{remember, wish_bits};
+use crate::verdicts::{at, judge};
 use wishbook::WishBook;
 
 #[derive(Drop)]
-pub(crate) struct Judged<'a> {
+pub(crate) struct BookAt<'a> {
     book: &'a WishBook,
     pub(crate) mask: u32,
     truths: [bool; 128],
     ghost size: { length truths ≡ 128 },
 }
 
-impl<'a> Judged<'a> {
+impl<'a> BookAt<'a> {
     ghost use Rattle.std.specs.Prelude.{◌<◌, ◌≤◌, unsigned_abs};
     ghost use Rattle.wishbook.specs.Contents.{contents};
-    ghost use Rattle.layer.specs.Judged.{known};
-    ghost use Rattle.layer.specs.Judging.{memory_of, bits_of_wishes, earned};
-    ghost use Rattle.layer.specs.Layering.{verdicts_in};
+    ghost use Rattle.layer.specs.BookAt.{known};
+    ghost use Rattle.layer.specs.Verdicts.{memory_of, bits_of_wishes, earned};
+    ghost use Rattle.layer.specs.Layered.{verdicts_in};
 
-    pub(crate) fn new(book: &'a WishBook, mask: u32, memory: u64) -> Judged<'a>
+    pub(crate) fn new(book: &'a WishBook, mask: u32, memory: u64) -> BookAt<'a>
         ensures book { result.book.now ≡ book.now }
         ensures mask { result.mask ≡ mask }
         ensures known { known result ≡ verdicts_in (contents book.now) mask memory }
     {
-        Judged {
+        BookAt {
             book,
             mask,
             truths: judge(book, mask, memory),

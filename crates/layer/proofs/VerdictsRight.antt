@@ -2,7 +2,7 @@
 -- what the truth lines say at this position, and so the next memory tells the truth of this one.
 use Rattle.std.proofs.Common.{◌≡◌, ℕ, zero, suc, ◌+◌, ◌<◌, Bool, true, false, not, ◌&&◌, ◌||◌, ltb, List, [], ◌∷◌, ◌++◌, map, length, get_or, sym, refl, ap, ◌∙◌, subst, inl, inr, append_assoc, arith, length-append}
 use Rattle.std.proofs.Math.Bool.{and-false, not-not}
-use Rattle.std.specs.List.{ContainsAt as Has}
+use Rattle.std.specs.List.{Contains}
 use Rattle.std.proofs.lemmas.List.{get_or_at, get_or_append_left, get_or_push, get_or-map, length_push}
 use Rattle.std.proofs.lemmas.Bool.{and_parts, ltb-true, cases_lt}
 use Rattle.formula.specs.declared.Item.{Item}
@@ -17,7 +17,7 @@ use Rattle.formula.proofs.Marks.{exact}
 use Rattle.formula.proofs.Trees.{earlier_at, formulas_at, length-formulas}
 use Rattle.truth.specs.Truth.{Trace, before, holds}
 use Rattle.truth.proofs.Unfolding.{since_first, since_next, always_first, always_next, sometime_first, sometime_next}
-use Rattle.layer.specs.Judging.{node_of, recalled, verdict, verdicts_from, verdicts, item_held, memory_of}
+use Rattle.layer.specs.Verdicts.{node_of, recalled, verdict, verdicts_from, verdicts, item_held, memory_of}
 use Rattle.layer.specs.Records.{truths, memory_at, tells}
 use Rattle.wishbook.specs.Book.{Book, items_over}
 use Rattle.wishlayout.specs.declared.Wish.{Wish}
@@ -48,19 +48,19 @@ module _ (ns : List Node) (ws : List Wish) (ok : earlier ns ≡ true) (τ : Trac
 
   -- bits that tell the truth of one position earlier
   abbrev pub Recalls : ℕ → (Item → Bool) → Type 0
-  Recalls n r = (x : Item) → Has items x → r x ≡ before n (tells ns τ x)
+  Recalls n r = (x : Item) → Contains items x → r x ≡ before n (tells ns τ x)
 
-  operand_used : (i a : ℕ) → i < length ns → a < i → Used i → Has (operands (get_or ns i True)) a → Used a
+  operand_used : (i a : ℕ) → i < length ns → a < i → Used i → Contains (operands (get_or ns i True)) a → Used a
   operand_used i a l less u has = (exact ns roots ok).every a (omega arith) (below ((exact ns roots ok).only i l u) has)
 
-  first_operand : (a b : ℕ) → Has (a ∷ (b ∷ [])) a
-  first_operand a b = (0, omega arith, λ d. refl)
+  first_operand : (a b : ℕ) → Contains (a ∷ (b ∷ [])) a
+  first_operand a b = (0, omega arith, refl)
 
-  second_operand : (a b : ℕ) → Has (a ∷ (b ∷ [])) b
-  second_operand a b = (1, omega arith, λ d. refl)
+  second_operand : (a b : ℕ) → Contains (a ∷ (b ∷ [])) b
+  second_operand a b = (1, omega arith, refl)
 
-  only_operand : (a : ℕ) → Has (a ∷ []) a
-  only_operand a = (0, omega arith, λ d. refl)
+  only_operand : (a : ℕ) → Contains (a ∷ []) a
+  only_operand a = (0, omega arith, refl)
 
   since_holds : (n : ℕ) (a b : Formula) (held x y : Bool) → held ≡ before n (λ j. holds (since a b) τ j) → x ≡ holds a τ n → y ≡ holds b τ n → ((x && held) || y) ≡ holds (since a b) τ n
   since_holds zero a b held x y h ex ey = (λ k. (x && h k) || y) ∙ ap (λ t. t || y) (and-false x) ∙ ey ∙ sym (since_first a b τ)
@@ -79,43 +79,43 @@ module _ (ns : List Node) (ws : List Wish) (ok : earlier ns ≡ true) (τ : Trac
     abbrev here : ℕ
     here = length known
 
-    known_at : (a : ℕ) → here < length ns → a < here → Used here → Has (operands (get_or ns here True)) a → get_or known a false ≡ true_at n a
+    known_at : (a : ℕ) → here < length ns → a < here → Used here → Contains (operands (get_or ns here True)) a → get_or known a false ≡ true_at n a
     known_at a l less u has = right a less (operand_used here a l less u has)
 
     verdict_kind : (node : Node) → get_or ns here True ≡ node → here < length ns → Used here → operands_below here node ≡ true → verdict (τ n) r here known node ≡ holds (tree_of (formulas ns) node) τ n
     unfolding holds
     verdict_kind (Label p) is l u o = refl
     verdict_kind True is l u o = refl
-    verdict_kind (Not a) is l u o = ap not (known_at a l (ltb-true a here o) u (subst (λ m. Has (operands m) a) (sym is) (only_operand a)))
+    verdict_kind (Not a) is l u o = ap not (known_at a l (ltb-true a here o) u (subst (λ m. Contains (operands m) a) (sym is) (only_operand a)))
     verdict_kind (And a b) is l u o =
         let low = and_parts (ltb a here) (ltb b here) o in
-        λ k. known_at a l (ltb-true a here low.0) u (subst (λ m. Has (operands m) a) (sym is) (first_operand a b)) k && known_at b l (ltb-true b here low.1) u (subst (λ m. Has (operands m) b) (sym is) (second_operand a b)) k
+        λ k. known_at a l (ltb-true a here low.0) u (subst (λ m. Contains (operands m) a) (sym is) (first_operand a b)) k && known_at b l (ltb-true b here low.1) u (subst (λ m. Contains (operands m) b) (sym is) (second_operand a b)) k
     verdict_kind (Or a b) is l u o =
         let low = and_parts (ltb a here) (ltb b here) o in
-        λ k. known_at a l (ltb-true a here low.0) u (subst (λ m. Has (operands m) a) (sym is) (first_operand a b)) k || known_at b l (ltb-true b here low.1) u (subst (λ m. Has (operands m) b) (sym is) (second_operand a b)) k
+        λ k. known_at a l (ltb-true a here low.0) u (subst (λ m. Contains (operands m) a) (sym is) (first_operand a b)) k || known_at b l (ltb-true b here low.1) u (subst (λ m. Contains (operands m) b) (sym is) (second_operand a b)) k
     verdict_kind (Previous a) is l u o =
         let less = ltb-true a here o in
-        recalls (Held a) ((selected ns (resting ns roots)).held_kept a (omega arith) (operand_used here a l less u (subst (λ m. Has (operands m) a) (sym is) (only_operand a))) (inr (here, l, u, is)))
+        recalls (Held a) ((selected ns (resting ns roots)).held_kept a (omega arith) (operand_used here a l less u (subst (λ m. Contains (operands m) a) (sym is) (only_operand a))) (inr (here, l, u, is)))
     verdict_kind (Since a b) is l u o =
         let low = and_parts (ltb a here) (ltb b here) o in
         let has = (selected ns (resting ns roots)).held_kept here l u (inl (ap lasting is)) in
         let tree : (j : ℕ) → true_at j here ≡ holds (tree_of (formulas ns) (Since a b)) τ j = λ j. ap (λ f. holds f τ j) (formulas_at ns here ok l ∙ ap (tree_of (formulas ns)) is) in
         since_holds n (get_or (formulas ns) a truth) (get_or (formulas ns) b truth) (r (Held here)) (get_or known a false) (get_or known b false)
         (recalls (Held here) has ∙ (λ i. before n (λ j. tree j i)))
-        (known_at a l (ltb-true a here low.0) u (subst (λ m. Has (operands m) a) (sym is) (first_operand a b)))
-        (known_at b l (ltb-true b here low.1) u (subst (λ m. Has (operands m) b) (sym is) (second_operand a b)))
+        (known_at a l (ltb-true a here low.0) u (subst (λ m. Contains (operands m) a) (sym is) (first_operand a b)))
+        (known_at b l (ltb-true b here low.1) u (subst (λ m. Contains (operands m) b) (sym is) (second_operand a b)))
     verdict_kind (Always a) is l u o =
         let has = (selected ns (resting ns roots)).failed_kept here l u (ap is_always is) in
         let tree : (j : ℕ) → not (true_at j here) ≡ not (holds (tree_of (formulas ns) (Always a)) τ j) = λ j. ap (λ f. not (holds f τ j)) (formulas_at ns here ok l ∙ ap (tree_of (formulas ns)) is) in
         always_holds n (get_or (formulas ns) a truth) (r (Failed here)) (get_or known a false)
         (recalls (Failed here) has ∙ (λ i. before n (λ j. tree j i)))
-        (known_at a l (ltb-true a here o) u (subst (λ m. Has (operands m) a) (sym is) (only_operand a)))
+        (known_at a l (ltb-true a here o) u (subst (λ m. Contains (operands m) a) (sym is) (only_operand a)))
     verdict_kind (Once a) is l u o =
         let has = (selected ns (resting ns roots)).held_kept here l u (inl (ap lasting is)) in
         let tree : (j : ℕ) → true_at j here ≡ holds (tree_of (formulas ns) (Once a)) τ j = λ j. ap (λ f. holds f τ j) (formulas_at ns here ok l ∙ ap (tree_of (formulas ns)) is) in
         sometime_holds n (get_or (formulas ns) a truth) (r (Held here)) (get_or known a false)
         (recalls (Held here) has ∙ (λ i. before n (λ j. tree j i)))
-        (known_at a l (ltb-true a here o) u (subst (λ m. Has (operands m) a) (sym is) (only_operand a)))
+        (known_at a l (ltb-true a here o) u (subst (λ m. Contains (operands m) a) (sym is) (only_operand a)))
 
     -- the next verdict is right too
     next_right : (node : Node) → get_or ns here True ≡ node → here < length ns → Right n (known ++ (verdict (τ n) r here known node ∷ []))
@@ -148,7 +148,7 @@ module _ (ns : List Node) (ws : List Wish) (ok : earlier ns ≡ true) (τ : Trac
   told_at n i l = get_or-map (λ f. holds f τ n) (formulas ns) i truth false (omega (arith, length-formulas ns))
 
   -- an item is of a used node that there is
-  item_used : (x : Item) → Has items x → (node_of x < length ns) × Used (node_of x)
+  item_used : (x : Item) → Contains items x → (node_of x < length ns) × Used (node_of x)
   item_used (Held i) has = let sel = (selected ns (resting ns roots)).held_only i has in (sel.0, sel.1)
   item_used (Failed i) has = let sel = (selected ns (resting ns roots)).failed_only i has in (sel.0, sel.1)
 
@@ -157,7 +157,7 @@ module _ (ns : List Node) (ws : List Wish) (ok : earlier ns ≡ true) (τ : Trac
   from_node vs us (Held i) e = e
   from_node vs us (Failed i) e = ap not e
 
-  pub item_told : (n : ℕ) (x : Item) → Has items x → item_held (truths ns τ n) x ≡ tells ns τ x n
+  pub item_told : (n : ℕ) (x : Item) → Contains items x → item_held (truths ns τ n) x ≡ tells ns τ x n
   item_told n (Held i) has = told_at n i (item_used (Held i) has).0
   item_told n (Failed i) has = ap not (told_at n i (item_used (Failed i) has).0)
 

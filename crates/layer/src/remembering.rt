@@ -1,9 +1,9 @@
-// What the truths in a state come to: the memory that is left, and the bits of the wishes.
+// What the truths in a state come to: the memory of the state arrived at, and the bits of the wishes.
 ghost use Rattle.std.specs.Prelude.{◌≡◌, ◌+◌, ◌*◌, ◌^◌, ◌<◌, ◌≤◌, Bool, length};
 ghost use Rattle.wishbook.specs.Contents.{contents};
-ghost use Rattle.layer.specs.Judging.{bit as bit_of, bits_of, item_held, memory_of, bits_of_wishes};
+ghost use Rattle.layer.specs.Verdicts.{bit as bit_of, bits_of, item_held, memory_of, bits_of_wishes};
 
-use crate::judging::at;
+use crate::verdicts::at;
 use formula::Item;
 use wishbook::WishBook;
 

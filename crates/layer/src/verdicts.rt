@@ -1,7 +1,7 @@
-// How a state is judged: from the label mask and what is recalled, the truth of each node in rising order.
+// The verdicts on the nodes of a book in a state: from the label mask and what is recalled, the truth of each in rising order.
 ghost use Rattle.std.specs.Prelude.{◌≡◌, ◌<◌, ◌≤◌, false, length, take, slice_index_or};
 ghost use Rattle.wishbook.specs.Contents.{contents};
-ghost use Rattle.layer.specs.Judging.{recalled as recalled_in, verdict as verdict_of, verdicts};
+ghost use Rattle.layer.specs.Verdicts.{recalled as recalled_in, verdict as verdict_of, verdicts};
 
 use crate::recalled::Recalled;
 use formula::{Item, Node};

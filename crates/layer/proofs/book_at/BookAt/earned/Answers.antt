@@ -1,8 +1,8 @@
 use Rattle.std.proofs.Common.{◌≤◌, length, sym, ap, arith}
 use Rattle.layer.specs.Books.{few_wishes}
 use Rattle.layer.proofs.Counting.{earning_more, earning_past}
-use Rattle.layer.proofs.judged.Judged.earned.Goals as goal
-use Rattle.layer.proofs.judged.Judged.earned.Goals.{then-at, else-at}
+use Rattle.layer.proofs.book_at.BookAt.earned.Goals as goal
+use Rattle.layer.proofs.book_at.BookAt.earned.Goals.{then-at, else-at}
 
 pub loop-wish-preserved : goal.loop-wish-preserved
 loop-wish-preserved c =

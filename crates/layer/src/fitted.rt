@@ -1,18 +1,19 @@
 // A wish book on a model that it fits, which is again a model.
-ghost use Rattle.std.specs.Prelude.{◌≡◌, ℕ, ◌+◌, ◌*◌, ◌^◌, ◌<◌, ◌≤◌, true, false, IfOk, MatchOption, map, length, slice_index_or};
+ghost use Rattle.std.specs.Prelude.{◌≡◌, ℕ, ◌+◌, ◌*◌, ◌^◌, ◌<◌, ◌≤◌, true, false, IsTrue, IfOk, MatchOption, map, length, slice_index_or};
 ghost use Rattle.std.specs.Result.{result_err};
 ghost use Rattle.bounded.specs.Listed.{listed};
 ghost use Rattle.model.specs.declared.Outcome.{Outcome as Way};
 ghost use Rattle.wishbook.specs.Contents.{contents};
 ghost use Rattle.layer.specs.Books.{few_items};
-ghost use Rattle.layer.specs.Judged.{JudgedAt};
-ghost use Rattle.layer.specs.Layering.{fits, is_layer_state, layered, memory as memory_in, refusal as refusal_of, under};
+ghost use Rattle.layer.specs.BookAt.{IsBookAt};
+ghost use Rattle.layer.specs.Layered.{fits, is_layer_state, layered, memory as memory_in, refusal as refusal_of, under};
 ghost use Rattle.layer.specs.Lawfulness.{layered_lawful};
-ghost use Rattle.layer.specs.Laying.{moved, SizesOf};
+ghost use Rattle.layer.specs.InMemory.{moved};
+ghost use Rattle.model.specs.Models.{sizes_of};
 
 use crate::amounts::amounts;
-use crate::fitting::fit;
-use crate::judged::Judged;
+use crate::book_at::BookAt;
+use crate::limits::fit;
 use model::{Outcome, Outcomes, SiteModel, Sizes};
 use refusal::Refusal;
 use wishbook::WishBook;
@@ -21,23 +22,24 @@ use wishbook::WishBook;
 pub(crate) const MEMORIES: u64 = 1 << 16;
 
 #[derive(Drop)]
-pub(crate) struct Over<'a, M: SiteModel> {
+pub(crate) struct Fitted<'a, M: SiteModel> {
     below: &'a M,
     pub(crate) book: &'a WishBook,
     sizes: Sizes,
-    ghost sized: { SizesOf (M.SiteModel.meaning below.now) sizes },
-    ghost fit: { fits (M.SiteModel.meaning below.now) (contents book.now) ≡ true },
+    ghost sized: { sizes ≡ sizes_of (M.SiteModel.meaning below.now) },
+    ghost fit: { IsTrue (fits (M.SiteModel.meaning below.now) (contents book.now)) },
 }
 
-impl<'a, M: SiteModel> Over<'a, M> {
+impl<'a, M: SiteModel> Fitted<'a, M> {
     // The layer, or why the book cannot be laid.
-    pub(crate) fn new(below: &'a M, book: &'a WishBook) -> Result<Over<'a, M>, Refusal>
+    pub(crate) fn new(below: &'a M, book: &'a WishBook) -> Result<Fitted<'a, M>, Refusal>
         ensures parts { IfOk result (λ o. (o.below.now ≡ below.now) × (o.book.now ≡ book.now)) }
-        ensures refusal { result_err result ≡ refusal_of (M.SiteModel.meaning below.now) (contents book.now) }
+        ensures refusal { result_err result ≡
+            refusal_of (sizes_of (M.SiteModel.meaning below.now)) (contents book.now) }
     {
         let sizes = below.sizes();
         fit(sizes, book)?;
-        Ok(Over { below, book, sizes })
+        Ok(Fitted { below, book, sizes })
     }
 
     // The state below and the memory, where `s` is a state of the layer. A pair, which each caller takes apart at once.
@@ -52,13 +54,13 @@ impl<'a, M: SiteModel> Over<'a, M> {
         }
     }
 
-    // The state below, and the book judged there, where `s` is a state of the layer.
-    fn judged(&self, s: u64) -> Option<(u64, Judged<'_>)>
-        ensures { MatchOption result (is_layer_state (M.SiteModel.meaning self.now.below.now) (contents self.now.book.now) s ≡ false) (λ p. (is_layer_state (M.SiteModel.meaning self.now.below.now) (contents self.now.book.now) s ≡ true) × (p.0 ≡ under s) × JudgedAt (M.SiteModel.meaning self.now.below.now) self.now.book.now s p.1) }
+    // The state below, and the book there, where `s` is a state of the layer.
+    fn book_at(&self, s: u64) -> Option<(u64, BookAt<'_>)>
+        ensures { MatchOption result (is_layer_state (M.SiteModel.meaning self.now.below.now) (contents self.now.book.now) s ≡ false) (λ p. (is_layer_state (M.SiteModel.meaning self.now.below.now) (contents self.now.book.now) s ≡ true) × (p.0 ≡ under s) × IsBookAt (M.SiteModel.meaning self.now.below.now) self.now.book.now s p.1) }
     {
         let (below, memory) = self.apart(s)?;
         let mask = self.below.mask(below);
-        Some((below, Judged::new(self.book, mask, memory)))
+        Some((below, BookAt::new(self.book, mask, memory)))
     }
 }
 
@@ -88,7 +90,7 @@ fn lift(ways: Outcomes, memory: u64) -> Outcomes
     all
 }
 
-impl<'a, M: SiteModel> SiteModel for Over<'a, M> {
+impl<'a, M: SiteModel> SiteModel for Fitted<'a, M> {
     ghost meaning = { λ o. layered (M.SiteModel.meaning o.below.now) (contents o.book.now) };
 
     ghost lawful = { λ o. layered_lawful (M.SiteModel.meaning o.below.now) (contents o.book.now) (M.SiteModel.lawful o.below.now) (few_items o.book.now) o.fit };
@@ -102,17 +104,17 @@ impl<'a, M: SiteModel> SiteModel for Over<'a, M> {
     }
 
     fn mask(&self, s: u64) -> u32 {
-        let Some((_, judged)) = self.judged(s) else {
+        let Some((_, here)) = self.book_at(s) else {
             return 0;
         };
-        join(judged.mask, self.sizes.labels, judged.bits())
+        join(here.mask, self.sizes.labels, here.bits())
     }
 
     fn reward(&self, s: u64) -> i32 {
-        let Some((below, judged)) = self.judged(s) else {
+        let Some((below, here)) = self.book_at(s) else {
             return 0;
         };
-        judged.earned(self.below.reward(below))
+        here.earned(self.below.reward(below))
     }
 
     fn ground(&self, s: u64) -> u64 {
@@ -126,10 +128,10 @@ impl<'a, M: SiteModel> SiteModel for Over<'a, M> {
     }
 
     fn outcomes(&self, s: u64, a: u32) -> Outcomes {
-        let Some((below, judged)) = self.judged(s) else {
+        let Some((below, here)) = self.book_at(s) else {
             return Outcomes::new();
         };
-        lift(self.below.outcomes(below, a), judged.memory())
+        lift(self.below.outcomes(below, a), here.memory())
     }
 
     fn sizes(&self) -> Sizes {

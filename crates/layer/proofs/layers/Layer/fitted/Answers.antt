@@ -1,5 +1,5 @@
 use Rattle.layer.proofs.Refusing.{laid_as, lies_as}
-use Rattle.layer.proofs.layers.Layer.over.Goals as goal
+use Rattle.layer.proofs.layers.Layer.fitted.Goals as goal
 
 pub returns-clause-book : goal.returns-clause-book
 returns-clause-book g c =

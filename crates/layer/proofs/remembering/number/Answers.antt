@@ -2,7 +2,7 @@ use Rattle.std.proofs.Common.{◌≡◌, [], ◌∷◌, ◌++◌, suc, ◌+◌, 
 use Rattle.std.proofs.lemmas.List.{length_push}
 use Rattle.layer.specs.Sizes.{bit_below}
 use Rattle.layer.proofs.Counting.{bits_onto, onto_more, onto_none}
-use Rattle.layer.proofs.counts.number.Goals as goal
+use Rattle.layer.proofs.remembering.number.Goals as goal
 
 pub loop-item-init : goal.loop-item-init
 loop-item-init g c =

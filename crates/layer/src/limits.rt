@@ -1,8 +1,7 @@
 // Whether a wish book can be laid on a model of given sizes.
 ghost use Rattle.std.specs.Prelude.{◌≡◌};
 ghost use Rattle.wishbook.specs.Contents.{contents};
-ghost use Rattle.layer.specs.Layering.{names_label_below};
-ghost use Rattle.layer.specs.Laying.{labels_have_room, refused_by};
+ghost use Rattle.layer.specs.Layered.{names_label_below, labels_fit, refusal};
 ghost use Rattle.std.specs.Result.{result_err};
 ghost use Rattle.words.specs.Tests.{all};
 
@@ -39,17 +38,18 @@ fn labels_below(nodes: &[Node], labels: u32) -> bool
 }
 
 // The book names only labels that there are, and there is room for one more for each wish.
-fn labels_fit(book: &WishBook, labels: u32) -> bool
-    ensures { result ≡ labels_have_room labels (contents book.now) }
+fn labels_fit(sizes: Sizes, book: &WishBook) -> bool
+    ensures { result ≡ labels_fit sizes (contents book.now) }
 {
-    labels_below(book.nodes(), labels) && labels as u64 + book.wishes().len() as u64 <= LABELS
+    labels_below(book.nodes(), sizes.labels)
+        && sizes.labels as u64 + book.wishes().len() as u64 <= LABELS
 }
 
 // The book can be laid, or why not: labels, then the bound, then the span.
 pub(crate) fn fit(sizes: Sizes, book: &WishBook) -> Result<(), Refusal>
-    ensures { result_err result ≡ refused_by sizes.labels sizes.bound sizes.span (contents book.now) }
+    ensures { result_err result ≡ refusal sizes (contents book.now) }
 {
-    if !labels_fit(book, sizes.labels) {
+    if !labels_fit(sizes, book) {
         return Err(Refusal::NoSuchLabel);
     }
     if sizes.bound as u64 + amounts(book) as u64 > BOUND {
