@@ -5,13 +5,13 @@ use lib.Signed.{≤ℤ_refl}
 use Rattle.std.proofs.lemmas.List.{length_push}
 use Rattle.model.specs.Histories.{final, Shown, History, begun, onward, Unfolds}
 use Rattle.model.specs.Models.{Model}
-use Rattle.weighing.specs.Holding.{held_raises, le_through}
+use Rattle.weighing.specs.Holding.{held_raises, le_through, add_raises}
 use Rattle.weighing.specs.Weighings.{Weigh, LawfulWeigh, held}
 use Rattle.worth.specs.declared.Pick.{Pick}
 use Rattle.worth.specs.Worths.{joined, own_part, summed, pick_at, worth_by, worth_of, action_of}
 use Rattle.worth.specs.Policies.{Policy, LedTo, led_start, led_on, Admissible, value_after, earned_after, Best, planned}
 use Rattle.worth.proofs.Picking.{pick_some, pick_told}
-use Rattle.worth.proofs.Joining.{joined_raises, joined_same, joined_along, sum_raises}
+use Rattle.worth.proofs.Joining.{joined_raises, joined_same, joined_along}
 
 le_same : (a b c : ℤ) → a ≤ℤ b → b ≡ c → a ≤ℤ c
 le_same a b c h e = subst (λ x. a ≤ℤ x) e h
@@ -79,7 +79,7 @@ module _ (w : Weigh) (discount : ℕ → ℕ) (g : Model) (sh : Shown) (m : Mode
       (λ t has. nobody_earns law ρ admissible k (h ++ (t ∷ [])) (led_on t led has) (onward (ρ h) t hist offered has) (omega (arith, length_push h t))) in
       let most : joined w (worths k) (m.outcomes (code h) (ρ h)) ≤ℤ best.0.value = told.largest (ρ h) (inside (code h) (ρ h) here) here in
       let below : joined w (value_after h (earned_after w discount g sh.reward horizon ρ k)) (g.outcomes (final h) (ρ h)) ≤ℤ best.0.value = le_through _ _ _ (le_same _ _ _ later (sym (action_value k h hist (ρ h) offered))) most in
-      le_same _ _ _ (held_raises _ _ (sum_raises (own_part w discount horizon (suc k) (sh.reward h)) _ _ below))
+      le_same _ _ _ (held_raises _ _ (add_raises (own_part w discount horizon (suc k) (sh.reward h)) (own_part w discount horizon (suc k) (sh.reward h)) _ _ (≤ℤ_refl (own_part w discount horizon (suc k) (sh.reward h))) below))
       (ap (λ r. held (own_part w discount horizon (suc k) r +ℤ best.0.value)) (sym (u.rewards h hist)) ∙ ap (summed held (own_part w discount horizon (suc k) (m.reward (code h)))) (sym best.1))
 
 -- the plan is admissible, earns the worth of the start, and no admissible policy earns more
