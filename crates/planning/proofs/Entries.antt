@@ -1,5 +1,5 @@
 -- What stands at a place of the plan, from what stands at the places before it. For others: `picked_within`, `picked_small`,
--- `pick_more`, `pick_past`, `last_worth` and `entry_there`.
+-- `pick_more`, `pick_past`, `last_worth`, `first_row` and `entry_there`.
 use Rattle.std.proofs.Common.{◌≡◌, ℕ, suc, ◌+◌, ◌-◌, ◌*◌, ◌/◌, ◌%◌, ◌<◌, ◌≤◌, Bool, true, false, cond, List, [], ◌∷◌, ℤ, pos, Some, None, IfSome, Option, get_or, take, drop, refl, sym, ap, ◌∙◌, subst, mul_comm, mul-suc, suc-mul, add-one, arith}
 use Rattle.std.proofs.lemmas.List.{get_or-take, get_or-drop}
 use Rattle.std.proofs.lemmas.Nat.{div-mul-add, mod-mul-add}
@@ -60,6 +60,13 @@ module _ (w : Weigh) (m : Model) (law : Lawful m) (num : NumberedBy m) (horizon 
   last_worth p e =
       ap (λ k. worth_of w discount_of m horizon k (p % m.span)) e
       ∙ ap (λ k. own_part w discount_of horizon k (m.reward (p % m.span))) (sym e)
+
+  -- in the first row no row is before
+  pub first_row : (p : ℕ) → p / m.span ≡ 0 → m.span ≤ p → ⊥
+  first_row p e row =
+      let inside : p % m.span < m.span = mod-lt p (omega (arith, law.states.within m.start law.states.starts)) in
+      let none : m.span * (p / m.span) ≡ m.span * 0 = ap (λ k. m.span * k) e in
+      omega (arith, div-add-mod p m.span, inside, none)
 
   -- the row below
   below_worth : (xs : List ℤ) (p j t : ℕ) → HoldsTo (worth_at w m horizon) p xs → suc j * m.span ≤ p → t < m.span → get_or xs (j * m.span + t) (pos 0) ≡ worth_of w discount_of m horizon j t

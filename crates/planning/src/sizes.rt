@@ -6,7 +6,7 @@ ghost use Rattle.refusal.specs.Rows.{unless};
 use crate::planner::SLOTS;
 use refusal::Refusal;
 
-// What planning for so many states would answer in tables of so many worths and choices, before anything is planned.
+/// What planning for so many states would answer in tables of so many worths and choices, before anything is planned.
 pub fn check_sizes(
     states: usize,
     horizon: usize,

@@ -14,7 +14,8 @@ pub record CourseOn (discount : ℕ → ℕ) (m : Model) (numbers : List ℕ) (c
   pub closed : c.closed ≡ not (is_choosing (reached discount m (begun discount m) numbers))
 
 -- by the reckoner over the ground model g, with what is shown
-pub record ReckonedCourse (discount : ℕ → ℕ) (g : Model) (sh : Shown) (numbers : List ℕ) (c : Course) : Type 0 where
+pub record ReckonedCourse (discount : ℕ → ℕ) (g : Model) (sh : Shown)
+    (numbers : List ℕ) (c : Course) : Type 0 where
   pub opening : c.opening ≡ reckoner_has discount sh (begins g)
   pub last : c.last ≡ reckoner_has discount sh (reckoned_after g sh (begins g) numbers)
   pub closed : c.closed ≡ is_none (reckoned_after g sh (begins g) numbers).chosen

@@ -83,7 +83,8 @@ pub record Agree (discount : ℕ → ℕ) (g : Model) (sh : Shown) (m : Model) :
       → run discount m (begun discount m) ns ≡ reckon_run discount g sh (begins g) ns
 
 -- after the numbers ns a walk on m stands where the record of the reckoner over g leads, with the same choice open, and has what he has
-pub record Beside (discount : ℕ → ℕ) (g : Model) (sh : Shown) (m : Model) (code : List ℕ → ℕ) (ns : List ℕ) : Type 0 where
+pub record Beside (discount : ℕ → ℕ) (g : Model) (sh : Shown) (m : Model)
+    (code : List ℕ → ℕ) (ns : List ℕ) : Type 0 where
   pub led : History g sh.offered (record_after g sh ns)
   pub stands : stands_at (reached discount m (begun discount m) ns) ≡ code (record_after g sh ns)
   pub chosen : chosen_in (reached discount m (begun discount m) ns)

@@ -6,7 +6,6 @@ ghost use Rattle.std.specs.Prelude.{◌≡◌};
 
 use refusal::Refusal;
 
-mod looks;
 mod runs;
 mod states;
 mod walker;

@@ -1,13 +1,23 @@
 // Where a walk stands: plain numbers, with no copies.
-ghost use Rattle.std.specs.Prelude.{◌+◌, ◌*◌, ◌<◌, ◌≤◌, unsigned_abs};
+ghost use Rattle.std.specs.Prelude.{◌≡◌, ◌+◌, ◌*◌, ◌<◌, ◌≤◌, ◌*ℤ◌, pos, unsigned_abs};
+ghost use Rattle.weighing.specs.Discounts.{discount_of};
 
-use crate::looks::{counted, look};
 use crate::{Refused, Sight};
 use model::SiteModel;
 use refusal::Refusal;
+use weighing::discount;
 
 // Nothing can be chosen in the last slot.
 const LAST_SLOT: usize = 12;
+
+// What the reward of a state counts in a slot, in 256ths.
+fn counted<M: SiteModel>(model: &M, slot: usize, state: u64) -> i32
+    ensures value { result ≡
+        pos (discount_of slot) *ℤ (M.SiteModel.meaning model.now).reward state }
+    ensures small { unsigned_abs result ≤ 512000 }
+{
+    discount(slot) as i32 * model.reward(state)
+}
 
 /// A walk with no choice open.
 #[derive(Drop)]
@@ -77,7 +87,12 @@ impl Standing {
     pub fn sight<M: SiteModel>(&self, model: &M) -> Sight
         ensures { result ≡ sight_of (M.SiteModel.meaning model.now) (stand_of self.now) }
     {
-        look(model, self.state, self.slot, self.total)
+        Sight {
+            site: model.ground(self.state),
+            slot: self.slot,
+            reward: model.reward(self.state),
+            total: self.total,
+        }
     }
 
     /// Ends the walk, with what it has.

@@ -7,7 +7,7 @@ use Rattle.model.specs.Histories.{final, Shown, History, begun, onward, targets_
 use Rattle.model.specs.Models.{Model}
 use Rattle.weighing.specs.Weighings.{Weigh, held}
 use Rattle.worth.specs.Worths.{joined, own_part}
-use Rattle.worth.specs.Policies.{Policy, LedTo, led_start, led_on, Admissible, earned_after, Best}
+use Rattle.worth.specs.Policies.{Policy, LedTo, led_start, led_on, Admissible, value_after, earned_after, Best}
 use Rattle.worth.proofs.Joining.{joined_same}
 
 module _ (w : Weigh) (discount : ℕ → ℕ) (g : Model) (sh : Shown) (horizon : ℕ) (π σ : Policy) (alike : (h : List ℕ) → History g sh.offered h → length h ≤ horizon → σ h ≡ π h) (admissible : Admissible g sh horizon π) where
@@ -26,10 +26,10 @@ module _ (w : Weigh) (discount : ℕ → ℕ) (g : Model) (sh : Shown) (horizon 
   earned_alike zero h led hist left = refl
   earned_alike (suc k) h led hist left =
       let few : length h ≤ horizon = omega arith in
-      let later : joined w (λ t. earned_after w discount g sh.reward horizon σ k (h ++ (t ∷ []))) (g.outcomes (final h) (π h)) ≡ joined w (λ t. earned_after w discount g sh.reward horizon π k (h ++ (t ∷ []))) (g.outcomes (final h) (π h)) =
-      joined_same w (λ t. earned_after w discount g sh.reward horizon σ k (h ++ (t ∷ []))) (λ t. earned_after w discount g sh.reward horizon π k (h ++ (t ∷ []))) w.first w.first (g.outcomes (final h) (π h)) refl
+      let later : joined w (value_after h (earned_after w discount g sh.reward horizon σ k)) (g.outcomes (final h) (π h)) ≡ joined w (value_after h (earned_after w discount g sh.reward horizon π k)) (g.outcomes (final h) (π h)) =
+      joined_same w (value_after h (earned_after w discount g sh.reward horizon σ k)) (value_after h (earned_after w discount g sh.reward horizon π k)) w.first w.first (g.outcomes (final h) (π h)) refl
       (λ t has. earned_alike k (h ++ (t ∷ [])) (led_on t led has) (onward (π h) t hist (admissible h led few) has) (omega (arith, length_push h t))) in
-      ap (λ a. held (own_part w discount horizon (suc k) (sh.reward h) +ℤ joined w (λ t. earned_after w discount g sh.reward horizon σ k (h ++ (t ∷ []))) (g.outcomes (final h) a))) (alike h hist few)
+      ap (λ a. held (own_part w discount horizon (suc k) (sh.reward h) +ℤ joined w (value_after h (earned_after w discount g sh.reward horizon σ k)) (g.outcomes (final h) a))) (alike h hist few)
       ∙ ap (λ v. held (own_part w discount horizon (suc k) (sh.reward h) +ℤ v)) later
 
 -- so where the one is best, the other is

@@ -1,8 +1,7 @@
 -- Joined values: they rise with the values of the targets, and those along a longer history are those of the histories.
--- For others: `joined_raises`, `joined_same`, `joined_along` and `sum_raises`.
-use Rattle.std.proofs.Common.{◌≡◌, ℕ, suc, List, [], ◌∷◌, ◌++◌, map, ℤ, ◌+ℤ◌, ◌≤ℤ◌, refl, arith}
+-- For others: `joined_raises`, `joined_same` and `joined_along`.
+use Rattle.std.proofs.Common.{◌≡◌, ℕ, suc, List, [], ◌∷◌, ◌++◌, map, ℤ, ◌≤ℤ◌, refl, arith}
 use Rattle.std.specs.List.{Contains}
-use Rattle.std.proofs.lemmas.Int.{ints}
 use Rattle.model.specs.declared.Outcome.{Outcome}
 use Rattle.model.specs.Histories.{targets_of, along}
 use Rattle.weighing.specs.Weighings.{Weigh, LawfulWeigh}
@@ -13,9 +12,6 @@ has_first t ts = (0, omega arith, refl)
 
 pub has_later : (u : ℕ) (ts : List ℕ) (t : ℕ) → Contains ts t → Contains (u ∷ ts) t
 has_later u ts t (k, l, at) = (suc k, omega arith, at)
-
-pub sum_raises : (c x y : ℤ) → x ≤ℤ y → (c +ℤ x) ≤ℤ (c +ℤ y)
-sum_raises c x y h = omega (arith, ints)
 
 -- raising the values of the targets never lowers the joined value
 pub joined_raises : (w : Weigh) → LawfulWeigh w → (lower upper : ℕ → ℤ) (x y : ℤ) (os : List Outcome) → x ≤ℤ y → ((t : ℕ) → Contains (targets_of os) t → lower t ≤ℤ upper t) → joined_from w lower x os ≤ℤ joined_from w upper y os
