@@ -5,7 +5,7 @@
 ghost use Rattle.std.specs.Prelude.{◌≡◌};
 ghost use Rattle.sitebook.specs.Contents.{contents};
 ghost use Rattle.writeout.specs.Copies.{by_origin};
-ghost use Rattle.outbook.specs.Lawful.{origin_lawful, origin_numbered};
+ghost use Rattle.writeout.proofs.Origins.{origin_lawful, origin_numbered};
 
 use model::{Numbered, Outcomes, SiteModel, Sizes};
 use sitebook::SiteBook;

@@ -4,7 +4,7 @@ use Rattle.std.specs.Prelude.{vec_items}
 use Rattle.std.proofs.lemmas.Bool.{and_parts, leb-true}
 use Rattle.std.proofs.lemmas.List.{length-take, get_or-take}
 use Rattle.model.specs.Models.{Model}
-use Rattle.outbook.specs.Lawful.{origin_lawful, origin_numbered}
+use Rattle.writeout.proofs.Origins.{origin_lawful, origin_numbered}
 use Rattle.pile.specs.Piles.{Floor, shown_on}
 use Rattle.planning.proofs.Better.{nobody_better}
 use Rattle.planning.proofs.Choosing.{picks_lowest}
