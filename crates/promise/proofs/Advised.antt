@@ -9,7 +9,7 @@ use Rattle.std.proofs.lemmas.Option.{slice_get-get_or}
 use Rattle.model.specs.Histories.{History}
 use Rattle.model.specs.Models.{Model}
 use Rattle.model.proofs.Paths.{some_history}
-use Rattle.pile.specs.Piles.{Floor}
+use Rattle.pile.specs.Piles.{Piling, shown_on}
 use Rattle.promise.specs.Corresponding.{book_model, place_in}
 use Rattle.promise.specs.WholePlan.{IsPlanOf, advice_by, choice_for, policy_of}
 use Rattle.promise.specs.declared.advising.Advice.{Advice}
@@ -21,7 +21,10 @@ use Rattle.weighing.specs.Weighings.{Weigh}
 use Rattle.worth.specs.Policies.{Policy}
 use Rattle.worth.specs.Worths.{choice_of}
 
-module _ (w : Weigh) (g : Model) (fs : List Floor) (m : Model) (h : ℕ) (p : Plan) (is : IsPlanOf w g fs m h p) where
+module _ (w : Weigh) (pile : Piling) (h : ℕ) (p : Plan) (is : IsPlanOf w pile h p) where
+  abbrev m : Model
+  m = pile.model
+
   -- the choice with so many slots left after, in a listed state
   entry : (row state : ℕ) → row < h → state < (book_model m).span → (d : ℕ) → (row * (book_model m).span + state < h * (book_model m).span)
       × (get_or (vec_items p.choices) (row * (book_model m).span + state) d ≡ choice_of w discount_of (book_model m) h row state)
@@ -39,15 +42,15 @@ module _ (w : Weigh) (g : Model) (fs : List Floor) (m : Model) (h : ℕ) (p : Pl
       ∙ sym (cond-true (ltb slot h && ltb state span) _ None (and_from (ltb slot h) (ltb state span) (lt-ltb slot h before) (lt-ltb state span listed)))
 
   -- a history stands at a listed state
-  listed_place : (hist : List ℕ) → History g hist → place_in g fs m hist < (book_model m).span
-  listed_place hist led = ltb-true (place_in g fs m hist) (book_model m).span ((is.pile.in_book is.writable).states hist led)
+  listed_place : (hist : List ℕ) → History pile.base (shown_on pile).offered hist → place_in pile hist < (book_model m).span
+  listed_place hist led = ltb-true (place_in pile hist) (book_model m).span ((is.corresponds.in_book is.writable).states hist led)
 
   -- what the policy names after a history is the choice for the slot of its end; past the horizon there is none
-  pub advised : (hist : List ℕ) → History g hist → choice_for w (book_model m) h (length hist - 1) (place_in g fs m hist) ≡ cond (leb (length hist) h) (Some (policy_of g fs m p hist)) None
+  pub advised : (hist : List ℕ) → History pile.base (shown_on pile).offered hist → choice_for w (book_model m) h (length hist - 1) (place_in pile hist) ≡ cond (leb (length hist) h) (Some (policy_of pile p hist)) None
   advised hist led =
       let span = (book_model m).span in
-      let place = place_in g fs m hist in
-      let some = some_history g hist led in
+      let place = place_in pile hist in
+      let some = some_history pile.base (shown_on pile).offered hist led in
       let listed = listed_place hist led in
       ⊎_elim
       (λ (t : leb (length hist) h ≡ true).
@@ -59,11 +62,11 @@ module _ (w : Weigh) (g : Model) (fs : List Floor) (m : Model) (h : ℕ) (p : Pl
       cond-true (ltb (length hist - 1) h && ltb place span) _ None (and_from (ltb (length hist - 1) h) (ltb place span) (lt-ltb (length hist - 1) h before) (lt-ltb place span listed))
       ∙ ap (λ k. Some (choice_of w discount_of (book_model m) h k place)) rows
       ∙ ap (λ (a : ℕ). Some a) (sym at.1 ∙ ap (λ k. get_or (vec_items p.choices) (k * span + place) 0) (sym left))
-      ∙ sym (cond-true (leb (length hist) h) (Some (policy_of g fs m p hist)) None t))
+      ∙ sym (cond-true (leb (length hist) h) (Some (policy_of pile p hist)) None t))
       (λ (f : leb (length hist) h ≡ false).
       let past : h < length hist = leb-false (length hist) h f in
       cond-false (ltb (length hist - 1) h && ltb place span) (Some (choice_of w discount_of (book_model m) h (h - (length hist - 1) - 1) place)) None (and_left (ltb (length hist - 1) h) (ltb place span) (le-ltb (length hist - 1) h (omega arith)))
-      ∙ sym (cond-false (leb (length hist) h) (Some (policy_of g fs m p hist)) None f))
+      ∙ sym (cond-false (leb (length hist) h) (Some (policy_of pile p hist)) None f))
       (cases_Bool (leb (length hist) h))
 
 -- with a choice open its outcome is to be told

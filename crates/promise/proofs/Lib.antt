@@ -5,3 +5,4 @@ pub mod Agreeing
 mod Preparing
 mod Whole
 mod Advised
+mod Promising

@@ -3,3 +3,4 @@ pub mod Causes
 pub mod Planning
 pub mod WholePlan
 pub mod Walking
+pub mod Promises

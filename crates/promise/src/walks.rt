@@ -1,11 +1,11 @@
 // The whole promise.
 ghost use Rattle.std.specs.Prelude.{IfOk, OnOk};
 ghost use Rattle.planning.specs.Choices.{ChoosesLowest, NothingHeld};
-ghost use Rattle.promise.specs.Corresponding.{book_model, Corresponds};
-ghost use Rattle.promise.specs.Planning.{BestInBook, NobodyEarnsMore, PlanEarns, PlansAs, TablesLeft, TablesStay};
-ghost use Rattle.promise.specs.Walking.{AgreeInBook, AgreeOnPile, CourseInBook, CourseTold, StandsInBook, StandsOnPile, StepsInBook, StepsTold, WalkedInBook, WalksStay};
+ghost use Rattle.promise.specs.Corresponding.{book_model};
+ghost use Rattle.promise.specs.Planning.{NobodyEarnsMore, PlanEarns, PlansAs, TablesLeft, TablesStay};
+ghost use Rattle.promise.specs.Walking.{CourseInBook, CourseTold, StepsInBook, StepsTold, WalkedInBook, WalksStay};
+ghost use Rattle.promise.specs.Promises.{Promises};
 ghost use Rattle.promise.specs.WholePlan.{IsPlanOf};
-ghost use Rattle.writeout.specs.Tables.{Represents};
 
 use crate::causes::Unplanned;
 use crate::plans::{Plan, Tables, plan_pile};
@@ -45,8 +45,8 @@ fn walk_in_book(
 
 // Plans on the book that is written out of the pile, and walks through the numbers, each a choice where none is open and else a told
 // outcome: once on the pile, and once on the book. Both walks are closed at the end, where no outcome is missing.
-// For every lawful ground model and every pile on it, walker and reckoner agree on the pile (`agrees_on_pile`) and on its book
-// (`agrees_in_book`), the plan earns exactly its worth (`earns`), and no policy that knows the whole history earns more (`nobody`).
+// For every lawful ground model and every pile on it, walker and reckoner agree on the pile and on its book (`pile`), the plan earns
+// exactly its worth (`earns`), and no policy that knows the whole history earns more (`nobody`).
 pub fn plan_and_walk<P: Pile, W: Weighing>(
     heap: Global,
     pile: &P,
@@ -60,41 +60,27 @@ pub fn plan_and_walk<P: Pile, W: Weighing>(
         tables.old result.plan }
     ensures tables { TablesLeft (W.meaning weighing.now) (P.SiteModel.meaning pile.now) horizon
         result.plan tables.old tables.new }
-    ensures on_pile { StepsTold (P.Pile.base pile.now) (P.Pile.floors pile.now) numbers.now
-        walks.old.on_pile.now walks.new.on_pile.now }
-    ensures in_book { StepsInBook (P.Pile.base pile.now) (P.Pile.floors pile.now) numbers.now
-        result.plan walks.old.in_book.now walks.new.in_book.now }
-    ensures course_on_pile { CourseTold (P.Pile.base pile.now) (P.Pile.floors pile.now)
-        numbers.now result.on_pile }
-    ensures course_in_book { CourseInBook (P.Pile.base pile.now) (P.Pile.floors pile.now)
-        numbers.now result.plan result.in_book }
+    ensures on_pile { StepsTold (P.Pile.piling pile.now) numbers.now walks.old.on_pile.now
+        walks.new.on_pile.now }
+    ensures in_book { StepsInBook (P.Pile.piling pile.now) numbers.now result.plan
+        walks.old.in_book.now walks.new.in_book.now }
+    ensures course_on_pile { CourseTold (P.Pile.piling pile.now) numbers.now result.on_pile }
+    ensures course_in_book { CourseInBook (P.Pile.piling pile.now) numbers.now result.plan
+        result.in_book }
     ensures lent { TablesStay tables.old tables.new × WalksStay walks.old walks.new }
     ensures plan { IfOk result.plan
-        (IsPlanOf (W.meaning weighing.now) (P.Pile.base pile.now) (P.Pile.floors pile.now)
-        (P.SiteModel.meaning pile.now) horizon) }
+        (IsPlanOf (W.meaning weighing.now) (P.Pile.piling pile.now) horizon) }
     ensures chooses { OnOk result.plan
         (ChoosesLowest (W.meaning weighing.now) (book_model (P.SiteModel.meaning pile.now)) horizon
         tables.new.worths.now tables.new.choices.now) }
     ensures free { OnOk result.plan
         (NothingHeld (W.meaning weighing.now) (book_model (P.SiteModel.meaning pile.now)) horizon
         tables.new.worths.now) }
-    ensures faithful { Represents (P.SiteModel.meaning pile.now) }
-    ensures corresponds { Corresponds (P.Pile.base pile.now) (P.Pile.floors pile.now)
-        (P.SiteModel.meaning pile.now) }
-    ensures agrees_on_pile { AgreeOnPile (P.Pile.base pile.now) (P.Pile.floors pile.now)
-        (P.SiteModel.meaning pile.now) }
-    ensures agrees_in_book { AgreeInBook (P.Pile.base pile.now) (P.Pile.floors pile.now)
-        (P.SiteModel.meaning pile.now) }
-    ensures stands_on_pile { StandsOnPile (P.Pile.base pile.now) (P.Pile.floors pile.now)
-        (P.SiteModel.meaning pile.now) }
-    ensures stands_in_book { StandsInBook (P.Pile.base pile.now) (P.Pile.floors pile.now)
-        (P.SiteModel.meaning pile.now) }
-    ensures best { BestInBook (P.Pile.base pile.now) (P.Pile.floors pile.now)
-        (P.SiteModel.meaning pile.now) }
-    ensures earns { PlanEarns (W.meaning weighing.now) (P.Pile.base pile.now)
-        (P.Pile.floors pile.now) (P.SiteModel.meaning pile.now) horizon tables.new result.plan }
-    ensures nobody { NobodyEarnsMore (W.meaning weighing.now) (P.Pile.base pile.now)
-        (P.Pile.floors pile.now) horizon result.plan }
+    ensures earns { PlanEarns (W.meaning weighing.now) (P.Pile.piling pile.now) horizon tables.new
+        result.plan }
+    ensures nobody { NobodyEarnsMore (W.meaning weighing.now) (P.Pile.piling pile.now) horizon
+        result.plan }
+    ensures pile { Promises (P.Pile.piling pile.now) }
 {
     let on_pile = replay(pile, numbers, &mut *walks.on_pile);
     let plan = plan_pile(heap, pile, weighing, horizon, tables);

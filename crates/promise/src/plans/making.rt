@@ -3,15 +3,16 @@ ghost use Rattle.std.specs.Prelude.{◌≡◌, ◌+◌, ◌*◌, ◌≤◌, IfEr
 ghost use Rattle.planning.specs.Choices.{ChoosesLowest, NothingHeld};
 ghost use Rattle.planning.specs.Plans.{answer_of, choice_at, Left, NobodyBetter, worth_at};
 ghost use Rattle.promise.specs.Causes.{OutOfMemory};
-ghost use Rattle.promise.specs.Corresponding.{book_model, Corresponds};
-ghost use Rattle.promise.specs.Planning.{BestInBook, NobodyEarnsMore, PlanEarns, PlansAs, ReadyAs, TablesLeft, TablesStay};
+ghost use Rattle.promise.specs.Corresponding.{book_model};
+ghost use Rattle.promise.specs.Planning.{NobodyEarnsMore, PlanEarns, PlansAs, ReadyAs, TablesLeft, TablesStay};
+ghost use Rattle.promise.specs.Promises.{Promises};
 ghost use Rattle.promise.specs.WholePlan.{IsPlanOf};
 ghost use Rattle.reach.specs.Search.{codes_of};
 ghost use Rattle.sitebook.specs.Contents.{contents};
 ghost use Rattle.sitelayout.specs.Layout.{site_format, site_words};
 ghost use Rattle.sitelayout.specs.Site.{Site};
 ghost use Rattle.words.specs.Format.{file, got, reading};
-ghost use Rattle.writeout.specs.Tables.{out_book, outcome, Represents, table_after};
+ghost use Rattle.writeout.specs.Tables.{out_book, outcome, table_after};
 
 use crate::causes::Unplanned;
 use crate::plans::{Plan, Tables};
@@ -107,9 +108,7 @@ fn prepare<P: Pile>(
     ensures bytes { bytes.new ≡ table_after
         (outcome (P.SiteModel.meaning pile.now) (length codes.old) (length bytes.old))
         (length bytes.old) (file (site_words (out_book (P.SiteModel.meaning pile.now)))) }
-    ensures faithful { Represents (P.SiteModel.meaning pile.now) }
-    ensures corresponds { Corresponds (P.Pile.base pile.now) (P.Pile.floors pile.now)
-        (P.SiteModel.meaning pile.now) }
+    ensures pile { Promises (P.Pile.piling pile.now) }
 {
     let written = write_pile(pile, codes, &mut *bytes)?;
     check_sizes(written.states, horizon, worths, choices)?;
@@ -136,23 +135,18 @@ pub fn plan_pile<P: Pile, W: Weighing>(
         result tables.old tables.new }
     ensures lent { TablesStay tables.old tables.new }
     ensures plan { IfOk result
-        (IsPlanOf (W.meaning weighing.now) (P.Pile.base pile.now) (P.Pile.floors pile.now)
-        (P.SiteModel.meaning pile.now) horizon) }
+        (IsPlanOf (W.meaning weighing.now) (P.Pile.piling pile.now) horizon) }
     ensures chooses { OnOk result
         (ChoosesLowest (W.meaning weighing.now) (book_model (P.SiteModel.meaning pile.now)) horizon
         tables.new.worths.now tables.new.choices.now) }
     ensures free { OnOk result
         (NothingHeld (W.meaning weighing.now) (book_model (P.SiteModel.meaning pile.now)) horizon
         tables.new.worths.now) }
-    ensures faithful { Represents (P.SiteModel.meaning pile.now) }
-    ensures corresponds { Corresponds (P.Pile.base pile.now) (P.Pile.floors pile.now)
-        (P.SiteModel.meaning pile.now) }
-    ensures best { BestInBook (P.Pile.base pile.now) (P.Pile.floors pile.now)
-        (P.SiteModel.meaning pile.now) }
-    ensures earns { PlanEarns (W.meaning weighing.now) (P.Pile.base pile.now)
-        (P.Pile.floors pile.now) (P.SiteModel.meaning pile.now) horizon tables.new result }
-    ensures nobody { NobodyEarnsMore (W.meaning weighing.now) (P.Pile.base pile.now)
-        (P.Pile.floors pile.now) horizon result }
+    ensures earns { PlanEarns (W.meaning weighing.now) (P.Pile.piling pile.now) horizon tables.new
+        result }
+    ensures nobody { NobodyEarnsMore (W.meaning weighing.now) (P.Pile.piling pile.now) horizon
+        result }
+    ensures pile { Promises (P.Pile.piling pile.now) }
 {
     let (worths, choices) = (tables.worths.len(), tables.choices.len());
     let Ready {

@@ -5,6 +5,6 @@ use Rattle.worth.specs.Policies.{Best}
 use Rattle.promise.proofs.plans.making.fill.Goals as goal
 
 pub returns-clause-nobody : goal.returns-clause-nobody
-returns-clause-nobody g c = λ g' code mask reward u.
+returns-clause-nobody g c = λ ground sh code u.
     let back : to_z w64 (of_z w64 c.in_ok-worth.worth) ≡ c.in_ok-worth.worth = search rules in
-    subst (Best (g.W.Weighing.meaning c.args.weighing.now) discount_of g' reward c.args.horizon (tabled c.plan.new.choices (g.M.SiteModel.meaning c.args.book.now).span code c.args.horizon)) (sym back) (c.in_ok-worth.ensures.nobody g' code mask reward u)
+    subst (Best (g.W.Weighing.meaning c.args.weighing.now) discount_of ground sh c.args.horizon (tabled c.plan.new.choices (g.M.SiteModel.meaning c.args.book.now).span code c.args.horizon)) (sym back) (c.in_ok-worth.ensures.nobody ground sh code u)

@@ -1,15 +1,15 @@
-use Rattle.std.proofs.Common.{◌≡◌, ◌*◌, ◌≤◌, length, take, Ok, Err, sym, ap, ◌∙◌, subst, arith, mul-le-mul}
-use Rattle.planning.proofs.Accepting.{accepted_short}
-use Rattle.planning.specs.Plans.{unless_refused}
+use Rattle.std.proofs.Common.{◌≡◌, ◌*◌, ◌≤◌, length, take, Some, None, Ok, Err, sym, ap, ◌∙◌, subst, arith, mul-le-mul}
+use Rattle.planning.proofs.Accepting.{accepted_short, refused_by, unrefused}
+use Rattle.planning.specs.Plans.{sizes_refusal}
 use Rattle.sitebook.specs.Contents.{contents}
 use Rattle.sitelayout.specs.Layout.{site_format}
 use Rattle.sitelayout.specs.Site.{Site}
 use Rattle.words.specs.Format.{Verdict, got, reading}
-use Rattle.writeout.specs.Tables.{out_book, outcome}
-use Rattle.promise.specs.Corresponding.{book_model}
-use Rattle.promise.specs.Planning.{ReadyAs, after_writing, unless_unready}
+use Rattle.writeout.specs.Tables.{Represents, out_book, outcome}
+use Rattle.promise.specs.Planning.{ReadyAs, plan_refusal}
 use Rattle.promise.specs.declared.causes.Unplanned.TheVariants.{Refused}
-use Rattle.promise.proofs.Preparing.{memory_as, states_are, tested, told_error}
+use Rattle.promise.proofs.Preparing.{after_written, memory_as, refused_writing, states_are, told_error}
+use Rattle.promise.proofs.Promising.{on_meaning}
 use Rattle.promise.proofs.Rereading.{rereads}
 use Rattle.writeout.proofs.Outcomes.{wrote}
 use Rattle.promise.proofs.plans.making.prepare.Goals as goal
@@ -19,35 +19,39 @@ returns-in_err-written-clause-answer g c =
     let m = g.P.SiteModel.meaning c.args.pile.now in
     let why = c.in_err-written.field-0.0 in
     let is : c.from_residual.result ≡ Err (Refused why) = told_error c.from_residual.result (Refused why) c.from_residual.ensures.1 in
-    let refused : unless_unready m c.args.horizon (length c.args.codes.now) (length c.args.bytes.now) c.args.worths c.args.choices ≡ Err why =
-    ap (λ o. after_writing o (unless_refused (tt {0}) (book_model m).span c.args.horizon c.args.worths c.args.choices)) (sym c.write_pile.ensures.answer ∙ c.in_err-written.was) in
+    let refused = refused_writing m c.args.horizon (length c.args.codes.now) (length c.args.bytes.now) c.args.worths c.args.choices why (sym c.write_pile.ensures.answer ∙ c.in_err-written.was) in
     subst (ReadyAs m c.args.horizon (length c.args.codes.now) (length c.args.bytes.now) c.args.worths c.args.choices) (sym is) refused
 
 pub returns-in_err-check_sizes-clause-answer : goal.returns-in_err-check_sizes-clause-answer
 returns-in_err-check_sizes-clause-answer g c =
     let m = g.P.SiteModel.meaning c.args.pile.now in
-    let out : outcome m (length c.args.codes.now) (length c.args.bytes.now) ≡ Ok c.in_ok-written.written = sym c.write_pile.ensures.answer ∙ c.in_ok-written.was in
+    let book = (on_meaning m _ (g.met.P.Pile.laid c.args.pile.now) c.write_pile.ensures.pile).represents in
+    let w = c.in_ok-written.written in
+    let out : outcome m (length c.args.codes.now) (length c.args.bytes.now) ≡ Ok w = sym c.write_pile.ensures.answer ∙ c.in_ok-written.was in
     let why = c.in_err-check_sizes.field-0.0 in
     let is : c.from_residual-in_err-check_sizes.result ≡ Err (Refused why) = told_error c.from_residual-in_err-check_sizes.result (Refused why) c.from_residual-in_err-check_sizes.ensures.1 in
-    let refused : unless_unready m c.args.horizon (length c.args.codes.now) (length c.args.bytes.now) c.args.worths c.args.choices ≡ Err why =
-    tested m c.write_pile.ensures.faithful c.args.horizon (length c.args.codes.now) (length c.args.bytes.now) c.args.worths c.args.choices c.in_ok-written.written out (Err why) (sym c.in_err-check_sizes.was ∙ c.check_sizes.ensures) in
+    let sizes = refused_by (sizes_refusal w.states c.args.horizon c.args.worths c.args.choices) tt why (sym c.check_sizes.ensures ∙ c.in_err-check_sizes.was) in
+    let refused : plan_refusal m c.args.horizon (length c.args.codes.now) (length c.args.bytes.now) c.args.worths c.args.choices ≡ Some why =
+    after_written m c.args.horizon (length c.args.codes.now) (length c.args.bytes.now) c.args.worths c.args.choices book w out ∙ sizes in
     subst (ReadyAs m c.args.horizon (length c.args.codes.now) (length c.args.bytes.now) c.args.worths c.args.choices) (sym is) refused
 
 pub read_back-requires-clause-whole : goal.read_back-requires-clause-whole
 read_back-requires-clause-whole g c =
     let m = g.P.SiteModel.meaning c.args.pile.now in
+    let book = (on_meaning m _ (g.met.P.Pile.laid c.args.pile.now) c.write_pile.ensures.pile).represents in
     let w = c.in_ok-written.written in
     let out : outcome m (length c.args.codes.now) (length c.args.bytes.now) ≡ Ok w = sym c.write_pile.ensures.answer ∙ c.in_ok-written.was in
-    let back : reading site_format (take (4 * w.words) c.write_pile.new.bytes) ≡ got (out_book m) = ap (λ b. reading site_format (take (4 * w.words) b)) c.in_ok-written.ensures.bytes ∙ rereads m c.write_pile.ensures.faithful (length c.args.codes.now) (length c.args.bytes.now) w out in
+    let back : reading site_format (take (4 * w.words) c.write_pile.new.bytes) ≡ got (out_book m) = ap (λ b. reading site_format (take (4 * w.words) b)) c.in_ok-written.ensures.bytes ∙ rereads m book (length c.args.codes.now) (length c.args.bytes.now) w out in
     (out_book m, back)
 
 pub returns-in_err-book-clause-answer : goal.returns-in_err-book-clause-answer
 returns-in_err-book-clause-answer g c =
     let m = g.P.SiteModel.meaning c.args.pile.now in
+    let book = (on_meaning m _ (g.met.P.Pile.laid c.args.pile.now) c.write_pile.ensures.pile).represents in
     let w = c.in_ok-written.written in
     let out : outcome m (length c.args.codes.now) (length c.args.bytes.now) ≡ Ok w = sym c.write_pile.ensures.answer ∙ c.in_ok-written.was in
-    let fine : unless_unready m c.args.horizon (length c.args.codes.now) (length c.args.bytes.now) c.args.worths c.args.choices ≡ Ok (tt {0}) =
-    tested m c.write_pile.ensures.faithful c.args.horizon (length c.args.codes.now) (length c.args.bytes.now) c.args.worths c.args.choices w out (Ok (tt {0})) (sym c.in_ok-check_sizes.was ∙ c.check_sizes.ensures) in
+    let sizes = unrefused (sizes_refusal w.states c.args.horizon c.args.worths c.args.choices) tt tt (sym c.check_sizes.ensures ∙ c.in_ok-check_sizes.was) in
+    let fine = after_written m c.args.horizon (length c.args.codes.now) (length c.args.bytes.now) c.args.worths c.args.choices book w out ∙ sizes in
     let why = c.in_err-book.field-0.0 in
     let is : c.from_residual-in_err-book.result ≡ Err why = told_error c.from_residual-in_err-book.result why c.from_residual-in_err-book.ensures.1 in
     subst (ReadyAs m c.args.horizon (length c.args.codes.now) (length c.args.bytes.now) c.args.worths c.args.choices) (sym is)
@@ -67,10 +71,11 @@ overflow_mul-horizon g c =
 pub returns-in_err-choices-clause-answer : goal.returns-in_err-choices-clause-answer
 returns-in_err-choices-clause-answer g c =
     let m = g.P.SiteModel.meaning c.args.pile.now in
+    let book = (on_meaning m _ (g.met.P.Pile.laid c.args.pile.now) c.write_pile.ensures.pile).represents in
     let w = c.in_ok-written.written in
     let out : outcome m (length c.args.codes.now) (length c.args.bytes.now) ≡ Ok w = sym c.write_pile.ensures.answer ∙ c.in_ok-written.was in
-    let fine : unless_unready m c.args.horizon (length c.args.codes.now) (length c.args.bytes.now) c.args.worths c.args.choices ≡ Ok (tt {0}) =
-    tested m c.write_pile.ensures.faithful c.args.horizon (length c.args.codes.now) (length c.args.bytes.now) c.args.worths c.args.choices w out (Ok (tt {0})) (sym c.in_ok-check_sizes.was ∙ c.check_sizes.ensures) in
+    let sizes = unrefused (sizes_refusal w.states c.args.horizon c.args.worths c.args.choices) tt tt (sym c.check_sizes.ensures ∙ c.in_ok-check_sizes.was) in
+    let fine = after_written m c.args.horizon (length c.args.codes.now) (length c.args.bytes.now) c.args.worths c.args.choices book w out ∙ sizes in
     let why = c.in_err-choices.field-0.0 in
     let is : c.from_residual-in_err-choices.result ≡ Err why = told_error c.from_residual-in_err-choices.result why c.from_residual-in_err-choices.ensures.1 in
     subst (ReadyAs m c.args.horizon (length c.args.codes.now) (length c.args.bytes.now) c.args.worths c.args.choices) (sym is)
@@ -79,11 +84,12 @@ returns-in_err-choices-clause-answer g c =
 pub returns-clause-answer : goal.returns-clause-answer
 returns-clause-answer g c =
     let m = g.P.SiteModel.meaning c.args.pile.now in
+    let book = (on_meaning m _ (g.met.P.Pile.laid c.args.pile.now) c.write_pile.ensures.pile).represents in
     let w = c.in_ok-written.written in
     let out : outcome m (length c.args.codes.now) (length c.args.bytes.now) ≡ Ok w = sym c.write_pile.ensures.answer ∙ c.in_ok-written.was in
-    let back : reading site_format (take (4 * w.words) c.write_pile.new.bytes) ≡ got (out_book m) = ap (λ b. reading site_format (take (4 * w.words) b)) c.in_ok-written.ensures.bytes ∙ rereads m c.write_pile.ensures.faithful (length c.args.codes.now) (length c.args.bytes.now) w out in
+    let back : reading site_format (take (4 * w.words) c.write_pile.new.bytes) ≡ got (out_book m) = ap (λ b. reading site_format (take (4 * w.words) b)) c.in_ok-written.ensures.bytes ∙ rereads m book (length c.args.codes.now) (length c.args.bytes.now) w out in
     let both : ◌≡◌ {A = Verdict Site} (got (contents c.in_ok-book.book.book)) (got (out_book m)) = sym c.in_ok-book.ensures.book ∙ back in
     let same : contents c.in_ok-book.book.book ≡ out_book m = cc in
-    let sizes : unless_refused (tt {0}) w.states c.args.horizon c.args.worths c.args.choices ≡ Ok (tt {0}) = sym c.check_sizes.ensures ∙ c.in_ok-check_sizes.was in
-    let states = states_are m c.write_pile.ensures.faithful c.args.horizon (length c.args.codes.now) (length c.args.bytes.now) c.args.worths c.args.choices w out in
-    (out, same, ap (λ n. unless_refused (tt {0}) n c.args.horizon c.args.worths c.args.choices) (sym states) ∙ sizes)
+    let sizes = unrefused (sizes_refusal w.states c.args.horizon c.args.worths c.args.choices) tt tt (sym c.check_sizes.ensures ∙ c.in_ok-check_sizes.was) in
+    let states = states_are m c.args.horizon (length c.args.codes.now) (length c.args.bytes.now) c.args.worths c.args.choices book w out in
+    (out, same, ap (λ n. sizes_refusal n c.args.horizon c.args.worths c.args.choices) (sym states) ∙ sizes)
