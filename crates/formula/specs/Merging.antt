@@ -5,7 +5,7 @@ use Rattle.bounded.specs.Listed.{listed}
 use Rattle.register.specs.Keys.{enter, place_of, Kept}
 use Rattle.formula.specs.declared.Node.{Node}
 use Rattle.formula.specs.declared.Node.TheVariants.{Label, True, Not, And, Or, Previous, Since, Always, Once}
-use Rattle.formula.specs.declared.join.Merged.{Merged}
+use Rattle.formula.specs.declared.merging.Merged.{Merged}
 use Rattle.formula.specs.Formulas.{truth, formulas, earlier}
 
 -- what kind a node is, and its fields

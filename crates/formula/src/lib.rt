@@ -3,15 +3,16 @@
 ghost use Rattle.formula.specs.declared.Item.TheVariants.{Held};
 ghost use Rattle.std.specs.Prelude.{◌≡◌};
 
-mod join;
-mod keep;
-mod keys;
-mod reach;
+use register::Key;
+
+mod items;
+mod merging;
+mod resting;
 mod table;
 
-pub use join::{Merged, merge};
-pub use keep::keep_items;
-pub use reach::{mark, mark_resting};
+pub use items::keep_items;
+pub use merging::{Merged, merge};
+pub use resting::{mark, mark_resting};
 pub use table::at;
 
 // How many nodes are numbered. A slice of any length is answered, a longer one by `None`: a bounded list in its place would ask more of callers.
@@ -30,6 +31,27 @@ pub enum Node {
     Since(u8, u8),
     Always(u8),
     Once(u8),
+}
+
+// A node's operands make the number that its bucket comes of; nodes with few operands in common mostly fall apart.
+// `mark_operands` matches on them too: there places are marked, here a number is made, so that one list of them would serve neither.
+impl Key for Node {
+    ghost use Rattle.formula.specs.Merging.{first_of, second_of};
+    ghost use Rattle.std.proofs.Common.{rules, ◌+◌, ◌*◌};
+
+    ghost bucket = { λ node. first_of node + 256 * second_of node };
+
+    ghost shares_bucket = { Prim.search rules };
+
+    fn bucket(&self) -> usize {
+        match *self {
+            Node::True => 0,
+            Node::Label(a) | Node::Not(a) | Node::Previous(a) | Node::Always(a) | Node::Once(a) => {
+                a.into()
+            }
+            Node::And(a, b) | Node::Or(a, b) | Node::Since(a, b) => a as usize + 256 * b as usize,
+        }
+    }
 }
 
 // What is remembered of a node from step to step: whether it held, or whether it ever failed.

@@ -1,7 +1,7 @@
 -- The nodes so far are looked through.
 use Rattle.std.proofs.Common.{◌≡◌, ℕ, ◌<◌, false, length, get_or}
 use Rattle.formula.specs.Items.{back_below}
-use Rattle.formula.proofs.keep.looked_back.Given as goal
+use Rattle.formula.proofs.items.looked_back.Given as goal
 
 abbrev pub invariant-loop-node : goal.invariant-loop-node
 invariant-loop-node l = record {

@@ -5,7 +5,7 @@ use Rattle.register.specs.Listed.{listed as held}
 use Rattle.formula.proofs.Faithful.{faithful}
 use Rattle.formula.proofs.Same.{entered}
 use Rattle.formula.proofs.Tables.{few_nodes, place_small, long, reached_more, reached_all}
-use Rattle.formula.proofs.join.merge.Goals as goal
+use Rattle.formula.proofs.merging.merge.Goals as goal
 
 pub returns-in_err-place-clause-answer : goal.returns-in_err-place-clause-answer
 returns-in_err-place-clause-answer c =

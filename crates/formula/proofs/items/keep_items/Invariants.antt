@@ -1,7 +1,7 @@
 -- The items of the nodes so far are listed.
 use Rattle.bounded.specs.Listed.{listed}
 use Rattle.formula.proofs.Listing.{Going}
-use Rattle.formula.proofs.keep.keep_items.Given as goal
+use Rattle.formula.proofs.items.keep_items.Given as goal
 
 abbrev pub invariant-loop-i : goal.invariant-loop-i
 invariant-loop-i g l =

@@ -2,8 +2,8 @@ use Rattle.std.proofs.Common.{◌≡◌, ◌++◌, ◌∷◌, [], cond, refl, ap
 use Rattle.bounded.specs.Listed.{listed}
 use Rattle.formula.specs.declared.Item.TheVariants.{Held}
 use Rattle.formula.proofs.Listing.{wanted, unwanted, skipped, listed_both, over_held, over_failed, all_listed}
-use Rattle.formula.proofs.keep.keep_items.Goals as goal
-use Rattle.formula.proofs.keep.keep_items.Goals.{then-keeps_held+in_ok-ok, else-keeps_held}
+use Rattle.formula.proofs.items.keep_items.Goals as goal
+use Rattle.formula.proofs.items.keep_items.Goals.{then-keeps_held+in_ok-ok, else-keeps_held}
 
 pub loop-i-preserved : goal.loop-i-preserved
 loop-i-preserved g c = skipped c.loop-i.invariant c.in-Some.ensures.steps.0 c.in-Some.ensures.steps.2 c.if-marked.false

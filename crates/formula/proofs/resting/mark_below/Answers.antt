@@ -1,6 +1,6 @@
 use Rattle.std.proofs.Common.{◌∙◌, rules}
 use Rattle.formula.proofs.Passes.{still_left, spread_marked}
-use Rattle.formula.proofs.reach.mark_below.Goals as goal
+use Rattle.formula.proofs.resting.mark_below.Goals as goal
 
 pub loop-i-preserved-then-at : goal.loop-i-preserved-then-at
 loop-i-preserved-then-at c =

@@ -1,6 +1,6 @@
 use Rattle.std.proofs.Common.{length, refl}
 use Rattle.formula.proofs.Passes.{rested}
-use Rattle.formula.proofs.reach.mark_resting.Goals as goal
+use Rattle.formula.proofs.resting.mark_resting.Goals as goal
 
 pub returns-clause-marked : goal.returns-clause-marked
 returns-clause-marked c = (

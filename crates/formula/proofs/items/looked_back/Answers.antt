@@ -3,7 +3,7 @@ use Rattle.std.proofs.lemmas.List.{get_or-replicate, length_push}
 use Rattle.std.proofs.lemmas.Slice.Zip.{zip_turn, zip_end}
 use Rattle.formula.specs.declared.Node.TheVariants.{True}
 use Rattle.formula.proofs.Passes.{back_more, back_all}
-use Rattle.formula.proofs.keep.looked_back.Goals as goal
+use Rattle.formula.proofs.items.looked_back.Goals as goal
 
 pub loop-node-init : goal.loop-node-init
 loop-node-init c = record { long = refl; looked = λ k l. get_or-replicate 128 k false false l }

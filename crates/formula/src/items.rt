@@ -1,7 +1,7 @@
 ghost use Rattle.std.specs.Prelude.{◌≡◌, ℕ, ◌<◌, false, ◌||◌, length, slice_index_or};
 ghost use Rattle.formula.specs.Items.{lasting, is_always, looks_back, back_below, kept_items, Keeps, Selected};
 
-use super::reach::mark;
+use super::resting::mark;
 use super::{Item, NODES, Node};
 use bounded::Bounded;
 

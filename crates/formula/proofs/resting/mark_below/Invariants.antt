@@ -2,7 +2,7 @@
 use Rattle.std.proofs.Common.{◌≡◌, length}
 use Rattle.formula.specs.Resting.{spread}
 use Rattle.formula.proofs.Passes.{Left}
-use Rattle.formula.proofs.reach.mark_below.Given as goal
+use Rattle.formula.proofs.resting.mark_below.Given as goal
 
 abbrev pub invariant-loop-i : goal.invariant-loop-i
 invariant-loop-i l =
