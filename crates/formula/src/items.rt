@@ -1,5 +1,5 @@
 ghost use Rattle.std.specs.Prelude.{◌≡◌, ℕ, ◌<◌, false, ◌||◌, length, slice_index_or};
-ghost use Rattle.formula.specs.Items.{lasting, is_always, looks_back, back_below, kept_items, Keeps, Selected};
+ghost use Rattle.formula.specs.Items.{lasting, is_always, looks_back, back_below, kept_items, ListsItems, Selected};
 
 use super::resting::mark;
 use super::{Item, NODES, Node};
@@ -21,7 +21,8 @@ fn keeps_failed(node: Node) -> bool
 
 // A previous marks its operand.
 fn look_back(back: &mut [bool], node: Node)
-    ensures { (k : ℕ) → k < length back.old → slice_index_or back.new k false ≡ (slice_index_or back.old k false || looks_back k node) }
+    ensures { (k : ℕ) → k < length back.old
+        → slice_index_or back.new k false ≡ (slice_index_or back.old k false || looks_back k node) }
 {
     if let Node::Previous(a) = node {
         mark(back, a.into());
@@ -31,7 +32,8 @@ fn look_back(back: &mut [bool], node: Node)
 // For each number, whether a previous that is used has the node of that number as its operand. Like the marks it is a table by number beside
 // the nodes: those are lent, and one list of all three would copy them.
 fn looked_back(nodes: &[Node], marks: &[bool]) -> [bool; NODES]
-    ensures { (k : ℕ) → k < 128 → slice_index_or result k false ≡ back_below nodes.now marks.now (length nodes.now) k }
+    ensures { (k : ℕ) → k < 128
+        → slice_index_or result k false ≡ back_below nodes.now marks.now (length nodes.now) k }
 {
     let mut back = [false; NODES];
     for (node, marked) in nodes.iter().zip(marks) {
@@ -45,7 +47,7 @@ fn looked_back(nodes: &[Node], marks: &[bool]) -> [bool; NODES]
 // The items that are kept of the marked nodes, in order. There is no answer for more than `NODES` nodes, or where more than `MOST` items are kept.
 #[tactic(auto, using(crate::proofs::Chosen::selected))]
 pub fn keep_items<const MOST: usize>(nodes: &[Node], marks: &[bool]) -> Option<Bounded<Item, MOST>>
-    ensures answer { Keeps nodes.now marks.now result }
+    ensures answer { ListsItems nodes.now marks.now result }
     ensures selected { Selected nodes.now marks.now (kept_items nodes.now marks.now) }
 {
     if nodes.len() > NODES {

@@ -1,6 +1,6 @@
 ghost use Rattle.formula.specs.Formulas.{earlier};
 ghost use Rattle.formula.specs.Merging.{renumbered, Faithful, Merges};
-ghost use Rattle.std.specs.Prelude.{◌≡◌, true};
+ghost use Rattle.std.specs.Prelude.{◌≡◌, IsTrue};
 
 use super::table::at;
 use super::{NODES, Node};
@@ -36,7 +36,7 @@ fn renumber(numbers: &[u8], word: Node) -> Node
 // copied at the end.
 pub fn merge(words: &[Node]) -> Option<Merged>
     ensures answer { Merges words.now result }
-    ensures faithful { earlier words.now ≡ true → Faithful words.now }
+    ensures faithful { IsTrue (earlier words.now) → Faithful words.now }
 {
     if words.len() > NODES {
         return None;

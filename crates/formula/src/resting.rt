@@ -1,6 +1,6 @@
 ghost use Rattle.formula.specs.Formulas.{earlier};
 ghost use Rattle.formula.specs.Resting.{operands, all_marked, spread, Exact, Rested};
-ghost use Rattle.std.specs.Prelude.{◌≡◌, true, length, slice_set};
+ghost use Rattle.std.specs.Prelude.{◌≡◌, true, IsTrue, length, slice_set};
 
 use super::table::at;
 use super::{NODES, Node};
@@ -53,7 +53,7 @@ fn mark_below(marks: &mut [bool], nodes: &[Node])
 #[tactic(auto, using(crate::proofs::Marks::exact))]
 pub fn mark_resting(nodes: &[Node], roots: &[u8]) -> Option<[bool; NODES]>
     ensures marked { Rested nodes.now roots.now result }
-    ensures exact { earlier nodes.now ≡ true → Exact nodes.now roots.now }
+    ensures exact { IsTrue (earlier nodes.now) → Exact nodes.now roots.now }
 {
     if nodes.len() > NODES {
         return None;
