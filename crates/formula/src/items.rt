@@ -44,7 +44,8 @@ fn looked_back(nodes: &[Node], marks: &[bool]) -> [bool; NODES]
     back
 }
 
-// The items that are kept of the marked nodes, in order. There is no answer for more than `NODES` nodes, or where more than `MOST` items are kept.
+/// The items that are kept of the marked nodes, by node number, held before failed; a node past the marks is not marked. There is no answer for
+/// more than `NODES` nodes, or where more than `MOST` items are kept.
 #[tactic(auto, using(crate::proofs::Chosen::selected))]
 pub fn keep_items<const MOST: usize>(nodes: &[Node], marks: &[bool]) -> Option<Bounded<Item, MOST>>
     ensures answer { ListsItems nodes.now marks.now result }

@@ -1,3 +1,5 @@
+//! Formulas about the past as lists of nodes: merging equal nodes, the nodes that rewards rest on, and what is remembered of them.
+
 #![tactic(auto)]
 
 ghost use Rattle.formula.specs.declared.Item.TheVariants.{Held};
@@ -15,10 +17,12 @@ pub use merging::{Merged, merge};
 pub use resting::{mark, mark_resting};
 pub use table::at;
 
-// How many nodes are numbered. A slice of any length is answered, a longer one by `None`: a bounded list in its place would ask more of callers.
+/// How many nodes are numbered at most.
+// A slice of any length is answered, a longer one by `None`: a bounded list in its place would ask more of callers.
 pub const NODES: usize = 128;
 
-// A wish as a node: operands are the numbers of earlier nodes. `Since(a, b)` is "a since b".
+/// One node of a formula; a label goes by its number, and an operand by that of an earlier node, both counted from 0. `Since(a, b)` is
+/// "a since b". What each means is said in docs/FORMATS.md.
 #[derive(Clone, Copy, Debug, PartialEq, Eq, Default)]
 pub enum Node {
     Label(u8),
@@ -54,7 +58,7 @@ impl Key for Node {
     }
 }
 
-// What is remembered of a node from step to step: whether it held, or whether it ever failed.
+/// What is remembered of the node of that number from step to step: whether it held a step ago, or whether it ever failed.
 #[derive(Clone, Copy, Debug, PartialEq, Eq)]
 pub enum Item {
     Held(u8),

@@ -7,7 +7,7 @@ use super::{NODES, Node};
 use bounded::Bounded;
 use register::Register;
 
-// The different nodes of some words, in order of first appearance, and the number of each word's node.
+/// The different nodes of some words, in order of first appearance, and the number of each word's node, counted from 0.
 #[derive(Clone, Copy)]
 pub struct Merged {
     pub nodes: Bounded<Node, NODES>,
@@ -32,8 +32,8 @@ fn renumber(numbers: &[u8], word: Node) -> Node
     }
 }
 
-// Merges node words. There is no answer for more than `NODES` of them. A register lists its keys in a table that it is lent: here one that is
-// copied at the end.
+/// Merges node words: words with the same kind and fields, operands merged first, are one node. There is no answer for more than `NODES` words.
+// A register lists its keys in a table that it is lent: here one that is copied at the end.
 pub fn merge(words: &[Node]) -> Option<Merged>
     ensures answer { Merges words.now result }
     ensures faithful { IsTrue (earlier words.now) → Faithful words.now }

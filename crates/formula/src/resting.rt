@@ -5,7 +5,8 @@ ghost use Rattle.std.specs.Prelude.{◌≡◌, true, IsTrue, length, slice_set};
 use super::table::at;
 use super::{NODES, Node};
 
-// Marks a place, unless it is past the end. The contract of a slice's `get_mut` does not say what the table becomes.
+/// Marks a place, unless it is past the end.
+// The contract of a slice's `get_mut` does not say what the table becomes.
 pub fn mark(marks: &mut [bool], place: usize)
     ensures { marks.new ≡ slice_set marks.old place true }
 {
@@ -49,7 +50,8 @@ fn mark_below(marks: &mut [bool], nodes: &[Node])
     }
 }
 
-// For each node, whether some root rests on it; the places past the last node are not marked. There is no answer for more than `NODES` nodes.
+/// For each node, whether some root rests on it, the roots being numbers of nodes; the places past the last node are not marked. There is no
+/// answer for more than `NODES` nodes.
 #[tactic(auto, using(crate::proofs::Marks::exact))]
 pub fn mark_resting(nodes: &[Node], roots: &[u8]) -> Option<[bool; NODES]>
     ensures marked { Rested nodes.now roots.now result }
