@@ -4,7 +4,7 @@ use Rattle.std.proofs.Common.{◌≡◌, ℕ, ◌-◌, ◌*◌, ◌≤◌, true,
 use Rattle.std.proofs.lemmas.Bool.{ltb-false, cond-true, cond-false, cases_Bool}
 use Rattle.std.proofs.lemmas.List.{take-append-le, take_all, length_push}
 use Rattle.model.specs.Models.{Model}
-use Rattle.pen.specs.Bytes.{padded}
+use Rattle.pen.specs.Bytes.{zero_padded}
 use Rattle.pen.proofs.Laying.{bytes_length}
 use Rattle.reach.specs.Search.{codes_of}
 use Rattle.refusal.specs.declared.Refusal.{Refusal}
@@ -48,7 +48,7 @@ wrote m places space w e =
     (cases_Bool (too_many m places))
 
 -- as many bytes as the words have, from the front
-pub rereads : (m : Model) → Faithfully m → (places space : ℕ) (w : Written) → outcome m places space ≡ Ok w → reading site_format (take (4 * w.words) (padded space (file (site_words (out_book m))))) ≡ got (out_book m)
+pub rereads : (m : Model) → Faithfully m → (places space : ℕ) (w : Written) → outcome m places space ≡ Ok w → reading site_format (take (4 * w.words) (zero_padded space (file (site_words (out_book m))))) ≡ got (out_book m)
 rereads m faithful places space w e =
     let told = wrote m places space w e in
     let bytes = file (site_words (out_book m)) in

@@ -8,7 +8,7 @@ use Rattle.register.specs.declared.Register.{Register}
 use Rattle.register.specs.Listed.{listed}
 use Rattle.model.specs.Models.{Model, Lawful}
 use Rattle.pen.specs.declared.Pen.{Pen}
-use Rattle.pen.specs.Bytes.{padded, LaidIn}
+use Rattle.pen.specs.Bytes.{zero_padded, LaidIn}
 use Rattle.pen.specs.Laid.{Laid, Adds, counted}
 use Rattle.reach.specs.Search.{codes_of}
 use Rattle.reach.proofs.Adding.{listed-length}
@@ -49,7 +49,7 @@ counted_some space ws n e =
     (cc, ltb-false space (4 * length ws) f))
     (cases_Bool (ltb space (4 * length ws)))
 
-laid_bytes : (ws : List ℕ) (n : Option ℕ) (bs : List ℕ) (k : ℕ) → LaidIn ws n bs → Some k ≡ counted (length bs) ws → bs ≡ padded (length bs) (bytes_of ws)
+laid_bytes : (ws : List ℕ) (n : Option ℕ) (bs : List ℕ) (k : ℕ) → LaidIn ws n bs → Some k ≡ counted (length bs) ws → bs ≡ zero_padded (length bs) (bytes_of ws)
 laid_bytes ws (Some n) bs k h e = h.1.1
 laid_bytes ws None bs k h e = absurd (omega (arith, h, (counted_some (length bs) ws k (sym e)).1))
 
@@ -57,11 +57,11 @@ laid_bytes ws None bs k h e = absurd (omega (arith, h, (counted_some (length bs)
 pub written_book : (b : Site) (p : Pen) (space : ℕ) → Laid (site_words b ++ (end_word (length (site_words b)) ∷ [])) p → length p.bytes.now ≡ space → (r : Option ℕ) → r ≡ words_in space b → (x : List ℕ) → x ≡ p.bytes.now → WrittenIn r x b
 written_book b p space laid size None e x x-is = tt
 written_book b p space laid size (Some k) e x x-is =
-    subst (λ l. l ≡ padded (length l) (file (site_words b))) (sym x-is)
+    subst (λ l. l ≡ zero_padded (length l) (file (site_words b))) (sym x-is)
     (laid_bytes (site_words b ++ (end_word (length (site_words b)) ∷ [])) p.words p.bytes.now k laid (e ∙ ap (λ n. words_in n b) (sym size)))
 
 -- the code table after the search
-pub codes_left : {k : key.Ghosts ℕ} {e : equality.Ghosts ℕ} (c : Register ℕ k e) (cs before x : List ℕ) → listed c ≡ cs → drop c.len c.keys.now ≡ drop c.len before → before ≡ replicate (length before) 0 → length c.keys.now ≡ length before → x ≡ c.keys.now → x ≡ padded (length x) cs
+pub codes_left : {k : key.Ghosts ℕ} {e : equality.Ghosts ℕ} (c : Register ℕ k e) (cs before x : List ℕ) → listed c ≡ cs → drop c.len c.keys.now ≡ drop c.len before → before ≡ replicate (length before) 0 → length c.keys.now ≡ length before → x ≡ c.keys.now → x ≡ zero_padded (length x) cs
 codes_left c cs before x is rest zeros room x-is =
     let size : length before - c.len ≡ length x - length cs = omega (arith, ap length is, listed-length c, ap length x-is) in
     x-is

@@ -1,7 +1,7 @@
 -- What writing out answers, and what it leaves in the two tables.
 use Rattle.std.specs.Prelude.{◌≡◌, ℕ, ◌+◌, ◌*◌, ◌<◌, ◌≤◌, min, Bool, cond, List, [], ◌∷◌, ◌++◌, length, Some, None, Ok, Err, Option, Result, nat_lt}
 use Rattle.model.specs.Models.{Model}
-use Rattle.pen.specs.Bytes.{padded}
+use Rattle.pen.specs.Bytes.{zero_padded}
 use Rattle.pen.specs.Laid.{counted}
 use Rattle.reach.specs.Reached.{Lists, MoreThan}
 use Rattle.reach.specs.Search.{codes_of}
@@ -45,17 +45,17 @@ words_in space b = counted space (site_words b ++ (end_word (length (site_words 
 -- the table then
 abbrev pub WrittenIn : Option ℕ → List ℕ → Site → Type 0
 WrittenIn None bytes b = Unit {0}
-WrittenIn (Some n) bytes b = bytes ≡ padded (length bytes) (file (site_words b))
+WrittenIn (Some n) bytes b = bytes ≡ zero_padded (length bytes) (file (site_words b))
 
 -- both tables, after an attempt that was not refused
 abbrev pub Leaves : Model → Result Written Refusal → List ℕ → List ℕ → Type 0
-Leaves m (Ok w) codes bytes = (codes ≡ padded (length codes) (codes_of m)) × (bytes ≡ padded (length bytes) (file (site_words (out_book m))))
+Leaves m (Ok w) codes bytes = (codes ≡ zero_padded (length codes) (codes_of m)) × (bytes ≡ zero_padded (length bytes) (file (site_words (out_book m))))
 Leaves m (Err r) codes bytes = Unit {0}
 
 -- a table of n places afterwards: all 0 on a refusal
 abbrev pub left : Result Written Refusal → ℕ → List ℕ → List ℕ
-left (Ok w) n xs = padded n xs
-left (Err r) n xs = padded n []
+left (Ok w) n xs = zero_padded n xs
+left (Err r) n xs = zero_padded n []
 
 -- what the listed codes and the book are worth: the codes are exactly the reached states where these are at most 4,096, and else there
 -- are more than the table holds; the book reads back, and says of each listed state what the model says
