@@ -7,7 +7,7 @@ ghost use Rattle.model.specs.Histories.{targets_of};
 ghost use Rattle.reach.specs.Adding.{Adds, room_in};
 ghost use Rattle.reach.specs.Reached.{Searched};
 ghost use Rattle.reach.specs.Search.{leads_to};
-ghost use Rattle.register.specs.Listed.{listed};
+ghost use Rattle.register.specs.Register.{keys_of};
 ghost use Rattle.std.specs.Prelude.{◌≡◌, [], ◌∷◌, length, drop};
 
 use model::{Outcomes, SiteModel};
@@ -19,7 +19,7 @@ const MOST: usize = 4096;
 
 // Lists the reachable states; refused where there are more than the table or a book holds.
 pub fn search<M: SiteModel>(m: &M, codes: &mut Register<u64>) -> Result<(), Refusal>
-    ensures answer { Searched (M.SiteModel.meaning m.now) (room_in (length codes.old.keys.now)) (listed codes.new) result }
+    ensures answer { Searched (M.SiteModel.meaning m.now) (room_in (length codes.old.keys.now)) (keys_of codes.new) result }
     ensures rest { drop codes.new.len codes.new.keys.now ≡ drop codes.new.len codes.old.keys.now }
     ensures room { length codes.new.keys.now ≡ length codes.old.keys.now }
     ensures lent { codes.new.keys.ghost_name ≡ codes.old.keys.ghost_name }

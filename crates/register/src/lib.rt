@@ -43,7 +43,7 @@ pub struct Register<'a, K: Key> {
 // What the table holds after is each function's own to say: all as it was, or all after the keys; that it is the lent one, all of them say.
 impl<'a, K: Key> Register<'a, K> {
     ghost use Rattle.register.specs.Keys.{Entered, Found, Placed, Stands};
-    ghost use Rattle.register.specs.Listed.{listed};
+    ghost use Rattle.register.specs.Register.{keys_of};
     ghost use Rattle.std.specs.Prelude.{drop};
 
     /// An empty register over the table `keys`. What the table holds is left and is no key.
@@ -74,7 +74,7 @@ impl<'a, K: Key> Register<'a, K> {
     // The table's length is asked by hand, since the contract of a slice's `get_mut` does not say what the table becomes.
     pub fn enter(&mut self, key: K) -> Option<usize>
         ensures answer { Entered K.PartialEq.eq key (length self.old.keys.now)
-            (listed self.old) (listed self.new) result }
+            (keys_of self.old) (keys_of self.new) result }
         ensures rest { drop self.new.len self.new.keys.now ≡ drop self.new.len self.old.keys.now }
         ensures room { length self.new.keys.now ≡ length self.old.keys.now }
         ensures lent { self.new.keys.ghost_name ≡ self.old.keys.ghost_name }
@@ -94,7 +94,7 @@ impl<'a, K: Key> Register<'a, K> {
 
     /// How many keys there are.
     pub fn len(&self) -> usize
-        ensures count { result ≡ length (listed self.now) }
+        ensures count { result ≡ length (keys_of self.now) }
         ensures fits { result ≤ length self.now.keys.now }
     {
         self.as_slice().len()
@@ -102,14 +102,14 @@ impl<'a, K: Key> Register<'a, K> {
 
     /// The key at a place, counted from 0; `None` past the last.
     pub fn get(&self, place: usize) -> Option<K>
-        ensures { Stands (listed self.now) place result }
+        ensures { Stands (keys_of self.now) place result }
     {
         self.as_slice().get(place).copied()
     }
 
     /// The keys in the order of entry.
     pub fn as_slice(&self) -> &[K]
-        ensures { result.now ≡ listed self.now }
+        ensures { result.now ≡ keys_of self.now }
     {
         &self.keys[..self.len]
     }
@@ -117,7 +117,7 @@ impl<'a, K: Key> Register<'a, K> {
     /// Where the key stands, counted from 0, if one that is equal to it was entered.
     // Tried with `or_else`: the check then knows nothing of what its closure answers.
     pub fn place(&self, key: &K) -> Option<usize>
-        ensures { Placed K.PartialEq.eq key.now (listed self.now) result }
+        ensures { Placed K.PartialEq.eq key.now (keys_of self.now) result }
     {
         if let Some(place) = self.chained_place(key) {
             return Some(place);
@@ -128,7 +128,7 @@ impl<'a, K: Key> Register<'a, K> {
     // Where it stands among the chained places: the search goes back through its bucket. It is a `while`,
     // since `find` asks for an iterator that ends, and none of `successors` is known to.
     fn chained_place(&self, key: &K) -> Option<usize>
-        ensures { Found K.PartialEq.eq (listed self.now) key.now 0 (min self.now.len 4096) result }
+        ensures { Found K.PartialEq.eq (keys_of self.now) key.now 0 (min self.now.len 4096) result }
     {
         let keys = &*self.keys;
         let mut at = self.chains.heads[bucket_of(key)] as usize;
@@ -144,7 +144,7 @@ impl<'a, K: Key> Register<'a, K> {
 
     // Where it stands past the chained places.
     fn later_place(&self, key: &K) -> Option<usize>
-        ensures { Found K.PartialEq.eq (listed self.now) key.now 4096 self.now.len result }
+        ensures { Found K.PartialEq.eq (keys_of self.now) key.now 4096 self.now.len result }
     {
         let later = self.as_slice().get(CHAINED..)?;
         let place = later.iter().position(|other| other == key)?;

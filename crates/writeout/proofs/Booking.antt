@@ -5,7 +5,7 @@ use Rattle.std.proofs.lemmas.Bool.{cases_Bool, cond-true, cond-false, ltb-false}
 use Rattle.std.specs.declared.cmp.PartialEq as equality
 use Rattle.register.specs.declared.Key as key
 use Rattle.register.specs.declared.Register.{Register}
-use Rattle.register.specs.Listed.{listed}
+use Rattle.register.specs.Register.{keys_of}
 use Rattle.model.specs.Models.{Model, Lawful}
 use Rattle.pen.specs.declared.Pen.{Pen}
 use Rattle.pen.specs.Bytes.{zero_padded, LaidIn}
@@ -61,7 +61,7 @@ written_book b p space laid size (Some k) e x x-is =
     (laid_bytes (site_words b ++ (end_word (length (site_words b)) ∷ [])) p.words p.bytes.now k laid (e ∙ ap (λ n. words_in n b) (sym size)))
 
 -- the code table after the search
-pub codes_left : {k : key.Ghosts ℕ} {e : equality.Ghosts ℕ} (c : Register ℕ k e) (cs before x : List ℕ) → listed c ≡ cs → drop c.len c.keys.now ≡ drop c.len before → before ≡ replicate (length before) 0 → length c.keys.now ≡ length before → x ≡ c.keys.now → x ≡ zero_padded (length x) cs
+pub codes_left : {k : key.Ghosts ℕ} {e : equality.Ghosts ℕ} (c : Register ℕ k e) (cs before x : List ℕ) → keys_of c ≡ cs → drop c.len c.keys.now ≡ drop c.len before → before ≡ replicate (length before) 0 → length c.keys.now ≡ length before → x ≡ c.keys.now → x ≡ zero_padded (length x) cs
 codes_left c cs before x is rest zeros room x-is =
     let size : length before - c.len ≡ length x - length cs = omega (arith, ap length is, listed-length c, ap length x-is) in
     x-is

@@ -3,7 +3,7 @@ ghost use Rattle.std.specs.Prelude.{◌≡◌, ◌<◌, map, nat_eq};
 ghost use Rattle.bounded.specs.Listed.{listed as ways};
 ghost use Rattle.pen.specs.Laid.{Adds};
 ghost use Rattle.register.specs.Keys.{place_of};
-ghost use Rattle.register.specs.Listed.{listed};
+ghost use Rattle.register.specs.Register.{keys_of};
 ghost use Rattle.sitelayout.specs.Layout.{move_words};
 ghost use Rattle.writeout.specs.Book.{action_words, move_to, state_words, table_words};
 
@@ -16,14 +16,14 @@ impl<M: SiteModel> Listing<'_, '_, M> {
     // Where a code stands among the listed ones. One that is not listed has the number after the last, in the definition too: the targets of
     // listed states are listed, so an `Option` would be opened by an arm that never comes.
     fn place_of(&self, code: u64) -> u16
-        ensures { result ≡ place_of nat_eq code (listed self.now.codes.now) }
+        ensures { result ≡ place_of nat_eq code (keys_of self.now.codes.now) }
     {
         self.codes.place(&code).unwrap_or(self.codes.len()) as u16
     }
 
     // Each outcome leads to the place of its target.
     fn write_moves(&self, outcomes: &Outcomes, pen: &mut Pen)
-        ensures { Adds (move_words (map (move_to (listed self.now.codes.now)) (ways outcomes.now))) pen.old pen.new }
+        ensures { Adds (move_words (map (move_to (keys_of self.now.codes.now)) (ways outcomes.now))) pen.old pen.new }
     {
         for way in outcomes.as_slice() {
             let step = Move {
@@ -37,7 +37,7 @@ impl<M: SiteModel> Listing<'_, '_, M> {
     // One action in the state at a place; nothing where it is not offered.
     fn write_cell(&self, place: u16, code: u64, action: u32, pen: &mut Pen)
         requires { action < (M.SiteModel.meaning self.now.model.now).actions }
-        ensures { Adds (action_words (M.SiteModel.meaning self.now.model.now) (listed self.now.codes.now) place code action) pen.old pen.new }
+        ensures { Adds (action_words (M.SiteModel.meaning self.now.model.now) (keys_of self.now.codes.now) place code action) pen.old pen.new }
     {
         let outcomes = self.model.outcomes(code, action);
         if !outcomes.is_empty() {
@@ -53,7 +53,7 @@ impl<M: SiteModel> Listing<'_, '_, M> {
 
     // All actions in the state at a place.
     fn write_state(&self, place: u16, code: u64, pen: &mut Pen)
-        ensures { Adds (state_words (M.SiteModel.meaning self.now.model.now) (listed self.now.codes.now) place code) pen.old pen.new }
+        ensures { Adds (state_words (M.SiteModel.meaning self.now.model.now) (keys_of self.now.codes.now) place code) pen.old pen.new }
     {
         for action in 0..self.model.actions() {
             self.write_cell(place, code, action, pen);
@@ -62,7 +62,7 @@ impl<M: SiteModel> Listing<'_, '_, M> {
 
     // All actions in all listed states.
     pub(crate) fn write_cells(&self, pen: &mut Pen)
-        ensures { Adds (table_words (M.SiteModel.meaning self.now.model.now) (listed self.now.codes.now)) pen.old pen.new }
+        ensures { Adds (table_words (M.SiteModel.meaning self.now.model.now) (keys_of self.now.codes.now)) pen.old pen.new }
     {
         for (place, code) in self.codes.as_slice().iter().enumerate() {
             self.write_state(place as u16, *code, pen);

@@ -1,5 +1,5 @@
 // What a book is written from.
-ghost use Rattle.register.specs.Listed.{listed};
+ghost use Rattle.register.specs.Register.{keys_of};
 ghost use Rattle.std.specs.Prelude.{◌≤◌, length};
 
 use register::Register;
@@ -9,5 +9,5 @@ use register::Register;
 pub(crate) struct Listing<'a, 'b, M> {
     pub(crate) model: &'a M,
     pub(crate) codes: &'a Register<'b, u64>,
-    ghost few: { length (listed codes.now) ≤ 4096 },
+    ghost few: { length (keys_of codes.now) ≤ 4096 },
 }

@@ -1,7 +1,7 @@
 // The words that say how large a book is and what each state shows.
 ghost use Rattle.std.specs.Prelude.{◌≡◌, ◌<◌, ◌≤◌, [], ◌∷◌, map, pos, ◌+ℤ◌, unsigned_abs};
 ghost use Rattle.pen.specs.Laid.{Adds};
-ghost use Rattle.register.specs.Listed.{listed};
+ghost use Rattle.register.specs.Register.{keys_of};
 ghost use Rattle.sitelayout.specs.Layout.{mark_words};
 ghost use Rattle.sitelayout.specs.OneWord.{word_of_reward};
 ghost use Rattle.writeout.specs.Book.{head_words, mark_of};
@@ -25,7 +25,7 @@ fn reward_word(reward: i32, origin: u64) -> u32
 
 impl<M: SiteModel> Listing<'_, '_, M> {
     pub(crate) fn write_head(&self, pen: &mut Pen)
-        ensures { Adds (head_words (M.SiteModel.meaning self.now.model.now) (listed self.now.codes.now)) pen.old pen.new }
+        ensures { Adds (head_words (M.SiteModel.meaning self.now.model.now) (keys_of self.now.codes.now)) pen.old pen.new }
     {
         let sizes = self.model.sizes();
         let head = Head {
@@ -46,7 +46,7 @@ impl<M: SiteModel> Listing<'_, '_, M> {
 
     // Those of all listed states.
     pub(crate) fn write_marks(&self, pen: &mut Pen)
-        ensures { Adds (mark_words (map (mark_of (M.SiteModel.meaning self.now.model.now)) (listed self.now.codes.now))) pen.old pen.new }
+        ensures { Adds (mark_words (map (mark_of (M.SiteModel.meaning self.now.model.now)) (keys_of self.now.codes.now))) pen.old pen.new }
     {
         for code in self.codes.as_slice() {
             self.write_mark(*code, pen);

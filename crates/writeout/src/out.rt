@@ -1,7 +1,7 @@
 // Listing the reachable states, and writing the book of them.
 ghost use Rattle.std.specs.Prelude.{◌≡◌, length, replicate};
 ghost use Rattle.reach.specs.Search.{codes_of};
-ghost use Rattle.register.specs.Listed.{listed};
+ghost use Rattle.register.specs.Register.{keys_of};
 ghost use Rattle.sitelayout.specs.Layout.{site_words};
 ghost use Rattle.words.specs.Format.{file};
 ghost use Rattle.writeout.specs.Book.{book_of};
@@ -19,8 +19,8 @@ use sitelayout::end_word;
 impl<M: SiteModel> Listing<'_, '_, M> {
     // The book of the listed states, with its end word; the number of its words, unless they are too many for the table.
     fn write_book(&self, bytes: &mut [u8]) -> Option<usize>
-        ensures count { result ≡ words_in (length bytes.old) (book_of (M.SiteModel.meaning self.now.model.now) (listed self.now.codes.now)) }
-        ensures bytes { WrittenIn result bytes.new (book_of (M.SiteModel.meaning self.now.model.now) (listed self.now.codes.now)) }
+        ensures count { result ≡ words_in (length bytes.old) (book_of (M.SiteModel.meaning self.now.model.now) (keys_of self.now.codes.now)) }
+        ensures bytes { WrittenIn result bytes.new (book_of (M.SiteModel.meaning self.now.model.now) (keys_of self.now.codes.now)) }
     {
         let mut pen = Pen::new(bytes);
         self.write_head(&mut pen);

@@ -3,7 +3,7 @@ use Rattle.model.specs.declared.Outcome.{Outcome}
 use Rattle.model.specs.Histories.{targets_of}
 use Rattle.bounded.specs.Listed.{listed as listed-ways}
 use Rattle.register.specs.Keys.{enter_all}
-use Rattle.register.specs.Listed.{listed}
+use Rattle.register.specs.Register.{keys_of}
 use Rattle.reach.specs.Adding.{Added}
 use Rattle.reach.proofs.Adding.{onto_both, added_on, added_over, targets_more, targets_split}
 use Rattle.reach.proofs.add_outcomes.Goals as goal
@@ -16,7 +16,7 @@ loop-way-preserved c =
     let inv = c.loop-way.invariant in
     let told = c.in_ok-list.ensures in
     let on = added_on c.args.codes.now c.loop-way.codes c.list.new.codes (targets_of (take i os)) ((get_or os i d).target ∷ []) inv.0 inv.1 told.added in (
-      on.0 ∙ ap (enter_all eqb (listed c.args.codes.now)) (sym (targets_more os i d c.loop-way-test.true)),
+      on.0 ∙ ap (enter_all eqb (keys_of c.args.codes.now)) (sym (targets_more os i d c.loop-way-test.true)),
       on.1,
       onto_both c.args.codes.now c.loop-way.codes c.list.new.codes inv.2 told.onto,
     )

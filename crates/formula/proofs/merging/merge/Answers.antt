@@ -1,7 +1,7 @@
 use Rattle.std.proofs.Common.{◌<◌, Some, length, take, ap, ◌∙◌, arith, rules}
 use Rattle.std.proofs.lemmas.List.{take_all}
 use Rattle.bounded.specs.Listed.{listed}
-use Rattle.register.specs.Listed.{listed as held}
+use Rattle.register.specs.Register.{keys_of}
 use Rattle.formula.proofs.Faithful.{faithful}
 use Rattle.formula.proofs.Same.{entered}
 use Rattle.formula.proofs.Tables.{few_nodes, place_small, long, reached_more, reached_all}
@@ -14,14 +14,14 @@ returns-in_err-place-clause-answer c =
 pub overflow_cast-place : goal.overflow_cast-place
 overflow_cast-place c =
     let inv = c.loop-word.invariant in
-    let answer = entered c.renumber-node.result (length c.loop-word.register.keys.now) (held c.loop-word.register) (held c.enter.new.self) (Some c.in_ok-place.place) c.in_ok-place.ensures.answer in
+    let answer = entered c.renumber-node.result (length c.loop-word.register.keys.now) (keys_of c.loop-word.register) (keys_of c.enter.new.self) (Some c.in_ok-place.place) c.in_ok-place.ensures.answer in
     omega (arith, place_small inv.reached _ _ answer.0, c.loop-word-test.true, c.if-words-gt-NODES.false)
 
 pub loop-word-preserved : goal.loop-word-preserved
 loop-word-preserved c =
     let inv = c.loop-word.invariant in
     let told = c.in_ok-place.ensures in
-    let answer = entered c.renumber-node.result (length c.loop-word.register.keys.now) (held c.loop-word.register) (held c.enter.new.self) (Some c.in_ok-place.place) told.answer in
+    let answer = entered c.renumber-node.result (length c.loop-word.register.keys.now) (keys_of c.loop-word.register) (keys_of c.enter.new.self) (Some c.in_ok-place.place) told.answer in
     let room : length (listed c.loop-word.numbers) < 128 = omega (arith, long inv.reached, c.loop-word-test.true, c.if-words-gt-NODES.false) in
     record {
       reached = reached_more inv.reached _ c.loop-word-test.true c.deref.ensures.0 c.renumber-node.ensures _ _ _ answer.0 answer.1 (search rules);

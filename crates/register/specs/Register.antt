@@ -4,5 +4,5 @@ use Rattle.std.specs.declared.cmp.PartialEq as equality
 use Rattle.register.specs.declared.Key as key
 use Rattle.register.specs.declared.Register.{Register}
 
-abbrev pub listed : {K : Type 0} {k : key.Ghosts K} {e : equality.Ghosts K} → Register K k e → List K
-listed r = take r.len r.keys.now
+abbrev pub keys_of : {K : Type 0} {k : key.Ghosts K} {e : equality.Ghosts K} → Register K k e → List K
+keys_of r = take r.len r.keys.now
