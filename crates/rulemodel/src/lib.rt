@@ -42,7 +42,8 @@ fn place_of(ways: &[Outcome], target: u64) -> Option<usize>
 
 // With one more landing: its weight comes to the outcome with this target, or to a new one at the end.
 fn with_landing(mut ways: Outcomes, target: u64, weight: u8) -> Outcomes
-    ensures { length (listed ways) < 8 → weights (listed ways) + weight < 256 → listed result ≡ added (listed ways) target weight }
+    ensures { length (listed ways) < 8 → weights (listed ways) + weight < 256
+        → listed result ≡ added (listed ways) target weight }
 {
     match place_of(&ways, target) {
         Some(place) => {
