@@ -63,7 +63,8 @@ fn with_landing(mut ways: Outcomes, target: u64, weight: u8) -> Outcomes
 // list of at most eight in its place would ask more of callers.
 pub fn outcomes_of(s: u64, effects: &[Effect]) -> Outcomes
     ensures outcomes { listed result ≡ outcomes_from s effects.now }
-    ensures gathered { length effects.now ≤ 8 → total effects.now ≤ 8 → Gathered s effects.now (listed result) }
+    ensures gathered { length effects.now ≤ 8 → total effects.now ≤ 8
+        → Gathered s effects.now (listed result) }
 {
     let mut ways = Outcomes::new();
     if total_weight(effects).is_some_and(|sum| sum <= 8) {
