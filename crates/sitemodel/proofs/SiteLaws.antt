@@ -16,10 +16,10 @@ use Rattle.sitelayout.specs.Site.{Site, taken, apart, total, good_mark, good_mov
 use Rattle.sitelayout.proofs.OneWords.{GoodOutcome}
 use Rattle.sitelayout.proofs.Valid.{mark_parts, move_parts, CellGood, cell_good, Validly, validly}
 use Rattle.siteverdict.specs.Counting.{size, bound_of}
-use Rattle.sitebook.specs.Models.{blank, mark_at, cell_at, outcome_of, site_model}
+use Rattle.sitemodel.specs.Meaning.{blank, mark_at, cell_at, outcome_of, site_model}
 
 -- rewards
-pub reward_size : (raised : ℕ) → unsigned_abs (pos raised -ℤ pos 2000) ≡ size raised
+reward_size : (raised : ℕ) → unsigned_abs (pos raised -ℤ pos 2000) ≡ size raised
 reward_size raised =
     elim (cases_Bool (nat_lt raised 2000)) [
       | inl t ↦ let h = ltb-true raised 2000 t in ap (λ b. unsigned_abs (cond b (negsuc (2000 - suc raised)) (pos (raised - 2000)))) t ∙ omega arith

@@ -1,6 +1,6 @@
 -- The site model that a book is: its states are the numbers below the count of its marks, and each is its own ground.
 -- A number that is no state has the blank mark, and offers nothing.
-use Rattle.std.specs.Prelude.{ℕ, ◌+◌, ◌*◌, cond, not, ◌&&◌, List, [], map, length, pos, ◌-ℤ◌, nat_lt, slice_index_or}
+use Rattle.std.specs.Prelude.{ℕ, ◌+◌, ◌*◌, not, ◌&&◌, List, [], map, length, pos, ◌-ℤ◌, nat_lt, slice_index_or, if◌then◌else◌}
 use Rattle.model.specs.declared.Outcome.{Outcome}
 use Rattle.model.specs.Models.{Model}
 use Rattle.words.specs.Tests.{none}
@@ -18,7 +18,7 @@ mark_at b s = slice_index_or b.marks s blank
 
 -- the outcomes of an action in a state
 abbrev pub cell_at : Site → ℕ → ℕ → List Move
-cell_at b s a = cond (nat_lt s (length b.marks) && nat_lt a b.actions) (slice_index_or b.cells (s * b.actions + a) []) []
+cell_at b s a = if nat_lt s (length b.marks) && nat_lt a b.actions then slice_index_or b.cells (s * b.actions + a) [] else []
 
 abbrev pub outcome_of : Move → Outcome
 outcome_of m = record { target = m.target; weight = m.weight }
@@ -33,7 +33,7 @@ site_model b = record {
   state = λ s. nat_lt s (length b.marks);
   mask = λ s. (mark_at b s).mask;
   reward = λ s. pos (mark_at b s).worth.raised -ℤ pos 2000;
-  site = λ s. cond (nat_lt s (length b.marks)) s 0;
+  site = λ s. if nat_lt s (length b.marks) then s else 0;
   offered = λ s a. not (none (cell_at b s a));
   outcomes = λ s a. map outcome_of (cell_at b s a);
   labels = b.labels;
