@@ -61,11 +61,29 @@ pub type Edit = (&'static str, (usize, usize, &'static [u32]), Answer);
 // A name; how many words of a base book are kept, what follows them, and how many bytes 255 then; the answer.
 pub type Ending = (&'static str, (usize, &'static [u32], usize), Answer);
 
+// Rows of edits, each in one line: place, words taken out, words put in; number and place of the answer; name.
+macro_rules! edits {
+    ($($at:literal $out:tt [$($word:literal)*] $number:literal $place:literal $name:literal)*) => {
+        &[$(($name, ($at, $out, &[$($word),*]), ($number, $place))),*]
+    };
+}
+
+pub(crate) use edits;
+
+// Rows of endings, each in one line: words kept, words that follow, bytes 255; number and place of the answer; name.
+macro_rules! endings {
+    ($($keep:literal [$($word:literal)*] $tail:literal $number:literal $place:literal $name:literal)*) => {
+        &[$(($name, ($keep, &[$($word),*], $tail), ($number, $place))),*]
+    };
+}
+
+pub(crate) use endings;
+
 // How many words are taken out where all that follow are.
 pub const ALL: usize = usize::MAX;
 
-// The first and the last unused bit of the word at a place.
-pub type UnusedBits = (usize, u32, u32);
+// A place in a base book, the lowest bit that no field of the word there has (28 where there is none), and the kinds that may come there.
+pub type Word = (usize, u32, &'static [u32]);
 
 // Where eight outcomes stand: the place of the first, its word at weight 0, what each next one adds, and the weight's lowest bit.
 #[derive(Clone, Copy)]
@@ -90,9 +108,6 @@ static WEIGHTS: [([u32; 8], u8); 11] = [
     ([8, 8, 8, 8, 8, 8, 8, 9], 4),
     ([1, 1, 1, 1, 1, 1, 1, 0], 4),
 ];
-
-// The kinds that may come at a place.
-pub type MayCome = (usize, &'static [u32]);
 
 // The answer is the one expected, or the test fails and says where.
 pub fn same<D: Display + Drop>(got: Answer, expected: Answer, place: D) -> Result<(), Fail>
@@ -204,44 +219,26 @@ impl<R: Reader> Bench<R> {
         Ok(())
     }
 
-    pub fn bits_and_kinds(&self, bits: &[UnusedBits], kinds: &[MayCome]) -> Result<(), Fail> {
-        self.unused_bits(bits)?;
-        self.wrong_kinds(kinds)
-    }
-
-    // Each unused bit alone is refused with 3.
-    fn unused_bits(&self, rows: &[UnusedBits]) -> Result<(), Fail> {
-        for (at, low, high) in rows {
+    // The word at a place is refused with 3 for each unused bit alone, and with 2 for each kind that may not come.
+    pub fn bits_and_kinds(&self, rows: &[Word]) -> Result<(), Fail> {
+        for (at, low, kinds) in rows {
             let at = *at;
             let word = self.base.get(at).copied().unwrap_or(0);
-            for bit in *low..=*high {
-                let put = [word | 1u32.rotate_left(bit)];
-                let words = self.spliced(at, 1, &put)?;
+            for bit in *low..28 {
+                let words = self.spliced(at, 1, &[word | 1u32.rotate_left(bit)])?;
                 self.words(
                     words.as_slice(),
                     (3, at),
                     format_args!("word {at} with bit {bit}"),
                 )?;
             }
-        }
-        Ok(())
-    }
-
-    // Each kind that may not come is refused with 2.
-    fn wrong_kinds(&self, rows: &[MayCome]) -> Result<(), Fail> {
-        for (at, kinds) in rows {
-            let at = *at;
-            let word = self.base.get(at).copied().unwrap_or(0) & 0x0FFFFFFF;
-            for kind in 0..16u32 {
-                if !kinds.contains(&kind) {
-                    let put = [word | kind.rotate_left(28)];
-                    let words = self.spliced(at, 1, &put)?;
-                    self.words(
-                        words.as_slice(),
-                        (2, at),
-                        format_args!("word {at} of kind {kind}"),
-                    )?;
-                }
+            for kind in (0..16u32).filter(|kind| !kinds.contains(kind)) {
+                let words = self.spliced(at, 1, &[word & 0x0FFFFFFF | kind.rotate_left(28)])?;
+                self.words(
+                    words.as_slice(),
+                    (2, at),
+                    format_args!("word {at} of kind {kind}"),
+                )?;
             }
         }
         Ok(())

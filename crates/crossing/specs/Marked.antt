@@ -8,7 +8,7 @@ use Rattle.model.specs.Models.{Model}
 use Rattle.pile.specs.Piles.{piled}
 use Rattle.reach.specs.Search.{codes_of}
 use Rattle.refusal.specs.declared.Refusal.TheVariants.{NotOffered, NoSuchOutcome}
-use Rattle.sitebook.specs.Models.{site_model}
+use Rattle.sitemodel.specs.Meaning.{site_model}
 use Rattle.sitelayout.specs.Layout.{site_format}
 use Rattle.sitelayout.specs.Site.{Site}
 use Rattle.walk.specs.declared.Step.{Step}

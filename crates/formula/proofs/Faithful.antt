@@ -142,14 +142,14 @@ module _ (came held : List Node) (numbers : List ℕ) (w : Node) (sound : Sound 
       subst (λ (p : ℕ). Sound (came ++ (w ∷ [])) (held ++ (n ∷ [])) (numbers ++ (p ∷ []))) (sym e)
       (sound_new (λ p l at. place_of_before same_node same_node_identity n held p True (omega arith) at)))
 
-sound_all : (came ws : List Node) (m : SoFar) → Sound came m.held m.numbers → earlier_from (length came) ws ≡ true → Sound (came ++ ws) (merge_from m ws).held (merge_from m ws).numbers
+sound_all : (came ws : List Node) (m : SoFar) → Sound came m.nodes m.numbers → earlier_from (length came) ws ≡ true → Sound (came ++ ws) (merge_from m ws).nodes (merge_from m ws).numbers
 sound_all came [] m sound h = search rules
 sound_all came (w ∷ ws) m sound h =
     let p = and_parts (operands_below (length came) w) (earlier_from (suc (length came)) ws) h in
     let long : suc (length came) ≡ length (came ++ (w ∷ [])) = omega (arith, length_push came w) in
     let m' = merge_one m w in
-    subst (λ cs. Sound cs (merge_from m' ws).held (merge_from m' ws).numbers) (append_assoc came (w ∷ []) ws)
-    (sound_all (came ++ (w ∷ [])) ws m' (sound_more came m.held m.numbers w sound p.0)
+    subst (λ cs. Sound cs (merge_from m' ws).nodes (merge_from m' ws).numbers) (append_assoc came (w ∷ []) ws)
+    (sound_all (came ++ (w ∷ [])) ws m' (sound_more came m.nodes m.numbers w sound p.0)
     (subst (λ (j : ℕ). earlier_from j ws ≡ true) long p.1))
 
 pub faithful : (ws : List Node) → earlier ws ≡ true → Faithful ws
@@ -161,7 +161,7 @@ faithful ws h =
       same = λ i l. absurd (omega arith);
       kept = kept_none Identical;
     } in
-    let sound = sound_all [] ws (record { held = []; numbers = [] }) none h in
+    let sound = sound_all [] ws (record { nodes = []; numbers = [] }) none h in
     record {
       formulas_kept = sound.kept;
       same_formula = sound.same;

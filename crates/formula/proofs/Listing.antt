@@ -7,7 +7,7 @@ use Rattle.formula.specs.declared.Node.{Node}
 use Rattle.formula.specs.declared.Node.TheVariants.{True}
 use Rattle.formula.specs.declared.Item.{Item}
 use Rattle.formula.specs.declared.Item.TheVariants.{Held, Failed}
-use Rattle.formula.specs.Items.{lasting, is_always, back_below, items_at, items_below, kept_items, Keeps}
+use Rattle.formula.specs.Items.{lasting, is_always, back_below, items_at, items_below, kept_items, ListsItems}
 use Rattle.formula.proofs.Passes.{items_past}
 
 -- an item that is wanted comes last,
@@ -116,13 +116,13 @@ module _ {nodes ns ns' : List Node} {used back ms ms' bs bs' : List Bool} {i j :
         omega (arith, ap length both, length-append (xs ++ cond h (Held k ∷ []) []) (cond f (Failed k ∷ []) []), items_grow nodes used (length nodes) (i + 1) (omega (arith, left_in nodes ns' n i here)))
 
     -- or there is no room for one of them
-    pub over_held : {most : ℕ} (r : Option (Bounded Item most)) → h ≡ true → (length xs < most → ⊥) → r ≡ None → Keeps nodes used r
+    pub over_held : {most : ℕ} (r : Option (Bounded Item most)) → h ≡ true → (length xs < most → ⊥) → r ≡ None → ListsItems nodes used r
     over_held {most} r is_kept full e =
-        subst (Keeps nodes used) (sym e) (inr (few, omega (arith, all_more, wanted-length h (Held k) xs is_kept, full)))
+        subst (ListsItems nodes used) (sym e) (inr (few, omega (arith, all_more, wanted-length h (Held k) xs is_kept, full)))
 
-    pub over_failed : {most : ℕ} (r : Option (Bounded Item most)) (ys : List Item) → ys ≡ xs ++ cond h (Held k ∷ []) [] → f ≡ true → (length ys < most → ⊥) → r ≡ None → Keeps nodes used r
+    pub over_failed : {most : ℕ} (r : Option (Bounded Item most)) (ys : List Item) → ys ≡ xs ++ cond h (Held k ∷ []) [] → f ≡ true → (length ys < most → ⊥) → r ≡ None → ListsItems nodes used r
     over_failed {most} r ys half is_kept full e =
-        subst (Keeps nodes used) (sym e) (inr (few, omega (arith, all_more, wanted-length f (Failed k) [] is_kept, ap length half, full)))
+        subst (ListsItems nodes used) (sym e) (inr (few, omega (arith, all_more, wanted-length f (Failed k) [] is_kept, ap length half, full)))
 
 -- the pass ends with the nodes or with the marks, since the table is as long as there may be nodes
 pub all_listed : {nodes ns : List Node} {used back ms bs : List Bool} {i : ℕ} {xs : List Item} → Going nodes used back ns ms bs i xs → length nodes ≤ 128 → ((length ns ≡ 0) ⊎ (length ms ≡ 0)) ⊎ (length bs ≡ 0) → xs ≡ kept_items nodes used

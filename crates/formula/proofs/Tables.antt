@@ -13,23 +13,23 @@ merge_from-append m (w ∷ ws) vs = merge_from-append (merge_one m w) ws vs
 -- one word more
 merge_all_more : (ws : List Node) (i : ℕ) (d : Node) → i < length ws → merge_all (take (i + 1) ws) ≡ merge_one (merge_all (take i ws)) (get_or ws i d)
 merge_all_more ws i d l =
-    ap merge_all (take_more ws i d l) ∙ merge_from-append (record { held = []; numbers = [] }) (take i ws) (get_or ws i d ∷ [])
+    ap merge_all (take_more ws i d l) ∙ merge_from-append (record { nodes = []; numbers = [] }) (take i ws) (get_or ws i d ∷ [])
 
 -- there are at most as many nodes more as words
-held-length : (m : SoFar) (ws : List Node) → (length m.held ≤ length (merge_from m ws).held) × (length (merge_from m ws).held ≤ length m.held + length ws)
+held-length : (m : SoFar) (ws : List Node) → (length m.nodes ≤ length (merge_from m ws).nodes) × (length (merge_from m ws).nodes ≤ length m.nodes + length ws)
 held-length m [] = (omega arith, omega arith)
 held-length m (w ∷ ws) = (
-  omega (arith, enter-length same_node (renumbered m.numbers w) m.held, held-length (merge_one m w) ws),
-  omega (arith, enter-length same_node (renumbered m.numbers w) m.held, held-length (merge_one m w) ws),
+  omega (arith, enter-length same_node (renumbered m.numbers w) m.nodes, held-length (merge_one m w) ws),
+  omega (arith, enter-length same_node (renumbered m.numbers w) m.nodes, held-length (merge_one m w) ws),
 )
 
 nodes_of-length : (ws : List Node) → length (nodes_of ws) ≤ length ws
-nodes_of-length ws = omega (arith, (held-length (record { held = []; numbers = [] }) ws).1)
+nodes_of-length ws = omega (arith, (held-length (record { nodes = []; numbers = [] }) ws).1)
 
 -- each word has its number
 numbers-length : (m : SoFar) (ws : List Node) → length (merge_from m ws).numbers ≡ length m.numbers + length ws
 numbers-length m [] = omega arith
-numbers-length m (w ∷ ws) = omega (arith, numbers-length (merge_one m w) ws, length_push m.numbers (place_of same_node (renumbered m.numbers w) m.held))
+numbers-length m (w ∷ ws) = omega (arith, numbers-length (merge_one m w) ws, length_push m.numbers (place_of same_node (renumbered m.numbers w) m.nodes))
 
 -- the nodes and numbers of the first i words
 pub record Reached (ws held : List Node) (numbers : List ℕ) (i : ℕ) : Type 0 where
@@ -45,7 +45,7 @@ module _ {ws held : List Node} {numbers : List ℕ} {i : ℕ} (reached : Reached
   place_small node p e = omega (arith, place_of_le same_node node held, few_nodes)
 
   pub long : i ≤ length ws → length numbers ≡ i
-  long l = omega (arith, ap length reached.numbers_are, numbers-length (record { held = []; numbers = [] }) (take i ws), length-take i ws)
+  long l = omega (arith, ap length reached.numbers_are, numbers-length (record { nodes = []; numbers = [] }) (take i ws), length-take i ws)
 
   pub reached_all : i ≡ length ws → (held ≡ nodes_of ws) × (numbers ≡ numbers_of ws)
   reached_all end =
@@ -60,6 +60,6 @@ module _ {ws held : List Node} {numbers : List ℕ} {i : ℕ} (reached : Reached
       let place : p ≡ place_of same_node (renumbered (numbers_of (take i ws)) (get_or ws i d)) (nodes_of (take i ws)) =
       p_is ∙ (λ k. place_of same_node (its k) (reached.nodes_are k)) in
       record {
-        nodes_are = held_is ∙ (λ k. enter same_node (its k) (reached.nodes_are k)) ∙ sym (ap (λ (m : SoFar). m.held) (merge_all_more ws i d in'));
+        nodes_are = held_is ∙ (λ k. enter same_node (its k) (reached.nodes_are k)) ∙ sym (ap (λ (m : SoFar). m.nodes) (merge_all_more ws i d in'));
         numbers_are = numbers_is ∙ (λ k. reached.numbers_are k ++ (place k ∷ [])) ∙ sym (ap (λ (m : SoFar). m.numbers) (merge_all_more ws i d in'));
       }

@@ -37,8 +37,6 @@ formulas ns = formulas_from [] ns
 
 -- each operand is below i
 abbrev pub operands_below : ℕ → Node → Bool
-operands_below i (Label p) = true
-operands_below i True = true
 operands_below i (Not a) = nat_lt a i
 operands_below i (And a b) = nat_lt a i && nat_lt b i
 operands_below i (Or a b) = nat_lt a i && nat_lt b i
@@ -46,6 +44,7 @@ operands_below i (Previous a) = nat_lt a i
 operands_below i (Since a b) = nat_lt a i && nat_lt b i
 operands_below i (Always a) = nat_lt a i
 operands_below i (Once a) = nat_lt a i
+operands_below i n = true
 
 abbrev pub earlier_from : ℕ → List Node → Bool
 earlier_from i [] = true

@@ -1,24 +1,24 @@
 -- Node words with the same kind and fields, operands merged first, are one node; the nodes are numbered by first appearance.
 -- Merging reads the words from left to right: it keeps the nodes so far, and the number of the node of each word so far.
-use Rattle.std.specs.Prelude.{◌≡◌, ℕ, ◌<◌, ◌≤◌, Bool, true, ◌&&◌, List, [], ◌∷◌, ◌++◌, length, Some, None, Option, ◌==◌, slice_index, slice_index_or}
+use Rattle.std.specs.Prelude.{◌≡◌, ℕ, ◌<◌, ◌≤◌, Bool, IsTrue, ◌&&◌, List, [], ◌∷◌, ◌++◌, length, Some, None, Option, ◌==◌, slice_index, slice_index_or}
 use Rattle.bounded.specs.Listed.{listed}
 use Rattle.register.specs.Keys.{enter, place_of, Kept}
 use Rattle.formula.specs.declared.Node.{Node}
 use Rattle.formula.specs.declared.Node.TheVariants.{Label, True, Not, And, Or, Previous, Since, Always, Once}
-use Rattle.formula.specs.declared.join.Merged.{Merged}
+use Rattle.formula.specs.declared.merging.Merged.{Merged}
 use Rattle.formula.specs.Formulas.{truth, formulas, earlier}
 
 -- what kind a node is, and its fields
-abbrev pub kind_of : Node → ℕ
-kind_of (Label p) = 0
-kind_of True = 1
-kind_of (Not a) = 2
-kind_of (And a b) = 3
-kind_of (Or a b) = 4
-kind_of (Previous a) = 5
-kind_of (Since a b) = 6
-kind_of (Always a) = 7
-kind_of (Once a) = 8
+abbrev pub node_kind : Node → ℕ
+node_kind (Label p) = 0
+node_kind True = 1
+node_kind (Not a) = 2
+node_kind (And a b) = 3
+node_kind (Or a b) = 4
+node_kind (Previous a) = 5
+node_kind (Since a b) = 6
+node_kind (Always a) = 7
+node_kind (Once a) = 8
 
 abbrev pub first_of : Node → ℕ
 first_of (Label p) = p
@@ -32,18 +32,13 @@ first_of (Always a) = a
 first_of (Once a) = a
 
 abbrev pub second_of : Node → ℕ
-second_of (Label p) = 0
-second_of True = 0
-second_of (Not a) = 0
 second_of (And a b) = b
 second_of (Or a b) = b
-second_of (Previous a) = 0
 second_of (Since a b) = b
-second_of (Always a) = 0
-second_of (Once a) = 0
+second_of n = 0
 
 abbrev pub same_node : Node → Node → Bool
-same_node n m = kind_of n == kind_of m && (first_of n == first_of m && second_of n == second_of m)
+same_node n m = node_kind n == node_kind m && (first_of n == first_of m && second_of n == second_of m)
 
 -- the node with its operands through a list of numbers
 abbrev pub renumbered : List ℕ → Node → Node
@@ -57,15 +52,16 @@ renumbered ks (Since a b) = Since (slice_index ks a) (slice_index ks b)
 renumbered ks (Always a) = Always (slice_index ks a)
 renumbered ks (Once a) = Once (slice_index ks a)
 
+-- what merging has made of the words so far
 pub record SoFar : Type 0 where
-  pub held : List Node
+  pub nodes : List Node
   pub numbers : List ℕ
 
 -- one word more
 abbrev pub merge_one : SoFar → Node → SoFar
 merge_one m w = record {
-  held = enter same_node (renumbered m.numbers w) m.held;
-  numbers = m.numbers ++ (place_of same_node (renumbered m.numbers w) m.held ∷ []);
+  nodes = enter same_node (renumbered m.numbers w) m.nodes;
+  numbers = m.numbers ++ (place_of same_node (renumbered m.numbers w) m.nodes ∷ []);
 }
 
 abbrev pub merge_from : SoFar → List Node → SoFar
@@ -73,11 +69,11 @@ merge_from m [] = m
 merge_from m (w ∷ ws) = merge_from (merge_one m w) ws
 
 abbrev pub merge_all : List Node → SoFar
-merge_all ws = merge_from (record { held = []; numbers = [] }) ws
+merge_all ws = merge_from (record { nodes = []; numbers = [] }) ws
 
 -- the different nodes
 abbrev pub nodes_of : List Node → List Node
-nodes_of ws = (merge_all ws).held
+nodes_of ws = (merge_all ws).nodes
 
 -- the number of each word's node
 abbrev pub numbers_of : List Node → List ℕ
@@ -87,7 +83,7 @@ numbers_of ws = (merge_all ws).numbers
 pub record Faithful (ws : List Node) : Type 0 where
   pub formulas_kept : Kept (formulas ws) (formulas (nodes_of ws))
   pub same_formula : (i : ℕ) → i < length ws → slice_index_or (formulas (nodes_of ws)) (slice_index (numbers_of ws) i) truth ≡ slice_index_or (formulas ws) i truth
-  pub still_earlier : earlier (nodes_of ws) ≡ true
+  pub still_earlier : IsTrue (earlier (nodes_of ws))
   pub all_numbered : length (numbers_of ws) ≡ length ws
   pub in_range : (i : ℕ) → i < length ws → slice_index (numbers_of ws) i < length (nodes_of ws)
 

@@ -1,12 +1,10 @@
 -- A reward rests on its node and on every operand below that.
 -- `Rests` says so by a derivation from the roots, the nodes of the rewards; `resting` finds it, from the highest node down.
-use Rattle.std.specs.Prelude.{◌≡◌, ℕ, zero, suc, ◌-◌, ◌<◌, ◌≤◌, Bool, true, false, cond, List, [], ◌∷◌, ◌++◌, length, replicate, Some, None, Option, slice_index_or, slice_set, Contains}
+use Rattle.std.specs.Prelude.{◌≡◌, ℕ, zero, suc, ◌-◌, ◌<◌, ◌≤◌, Bool, true, false, if◌then◌else◌, IsTrue, List, [], ◌∷◌, ◌++◌, length, replicate, Some, None, Option, slice_index_or, slice_set, Contains}
 use Rattle.formula.specs.declared.Node.{Node}
-use Rattle.formula.specs.declared.Node.TheVariants.{Label, True, Not, And, Or, Previous, Since, Always, Once}
+use Rattle.formula.specs.declared.Node.TheVariants.{True, Not, And, Or, Previous, Since, Always, Once}
 
 abbrev pub operands : Node → List ℕ
-operands (Label p) = []
-operands True = []
 operands (Not a) = a ∷ []
 operands (And a b) = a ∷ (b ∷ [])
 operands (Or a b) = a ∷ (b ∷ [])
@@ -14,6 +12,7 @@ operands (Previous a) = a ∷ []
 operands (Since a b) = a ∷ (b ∷ [])
 operands (Always a) = a ∷ []
 operands (Once a) = a ∷ []
+operands n = []
 
 pub data Rests (nodes : List Node) (roots : List ℕ) : ℕ → Type 0 where
   root : {i : ℕ} → Contains roots i → Rests nodes roots i
@@ -27,7 +26,7 @@ all_marked ms (a ∷ rest) = all_marked (slice_set ms a true) rest
 -- the nodes below k in falling order: where one is marked, its operands are marked
 abbrev pub spread : List Node → ℕ → List Bool → List Bool
 spread nodes zero ms = ms
-spread nodes (suc k) ms = spread nodes k (cond (slice_index_or ms k false) (all_marked ms (operands (slice_index_or nodes k True))) ms)
+spread nodes (suc k) ms = spread nodes k (if slice_index_or ms k false then all_marked ms (operands (slice_index_or nodes k True)) else ms)
 
 -- for each node, whether it rests
 abbrev pub resting : List Node → List ℕ → List Bool
@@ -35,8 +34,8 @@ resting nodes roots = spread nodes (length nodes) (all_marked (replicate (length
 
 -- of nodes whose operands number earlier nodes, those are marked that rest, and no other
 pub record Exact (nodes : List Node) (roots : List ℕ) : Type 0 where
-  pub every : (i : ℕ) → i < length nodes → Rests nodes roots i → slice_index_or (resting nodes roots) i false ≡ true
-  pub only : (i : ℕ) → i < length nodes → slice_index_or (resting nodes roots) i false ≡ true → Rests nodes roots i
+  pub every : (i : ℕ) → i < length nodes → Rests nodes roots i → IsTrue (slice_index_or (resting nodes roots) i false)
+  pub only : (i : ℕ) → i < length nodes → IsTrue (slice_index_or (resting nodes roots) i false) → Rests nodes roots i
 
 -- the marks of at most 128 nodes, in a table of 128
 abbrev pub Rested : List Node → List ℕ → Option (List Bool) → Type 0

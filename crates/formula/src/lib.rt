@@ -1,23 +1,28 @@
+//! Formulas about the past as lists of nodes: merging equal nodes, the nodes that rewards rest on, and what is remembered of them.
+
 #![tactic(auto)]
 
 ghost use Rattle.formula.specs.declared.Item.TheVariants.{Held};
 ghost use Rattle.std.specs.Prelude.{◌≡◌};
 
-mod join;
-mod keep;
-mod keys;
-mod reach;
+use register::Key;
+
+mod items;
+mod merging;
+mod resting;
 mod table;
 
-pub use join::{Merged, merge};
-pub use keep::keep_items;
-pub use reach::{mark, mark_resting};
+pub use items::keep_items;
+pub use merging::{Merged, merge};
+pub use resting::{mark, mark_resting};
 pub use table::at;
 
-// How many nodes are numbered. A slice of any length is answered, a longer one by `None`: a bounded list in its place would ask more of callers.
+/// How many nodes are numbered at most.
+// A slice of any length is answered, a longer one by `None`: a bounded list in its place would ask more of callers.
 pub const NODES: usize = 128;
 
-// A wish as a node: operands are the numbers of earlier nodes. `Since(a, b)` is "a since b".
+/// One node of a formula; a label goes by its number, and an operand by that of an earlier node, both counted from 0. `Since(a, b)` is
+/// "a since b". What each means is said in docs/FORMATS.md.
 #[derive(Clone, Copy, Debug, PartialEq, Eq, Default)]
 pub enum Node {
     Label(u8),
@@ -32,7 +37,28 @@ pub enum Node {
     Once(u8),
 }
 
-// What is remembered of a node from step to step: whether it held, or whether it ever failed.
+// A node's operands make the number that its bucket comes of; nodes with few operands in common mostly fall apart.
+// `mark_operands` matches on them too: there places are marked, here a number is made, so that one list of them would serve neither.
+impl Key for Node {
+    ghost use Rattle.formula.specs.Merging.{first_of, second_of};
+    ghost use Rattle.std.proofs.Common.{rules, ◌+◌, ◌*◌};
+
+    ghost bucket = { λ node. first_of node + 256 * second_of node };
+
+    ghost shares_bucket = { Prim.search rules };
+
+    fn bucket(&self) -> usize {
+        match *self {
+            Node::True => 0,
+            Node::Label(a) | Node::Not(a) | Node::Previous(a) | Node::Always(a) | Node::Once(a) => {
+                a.into()
+            }
+            Node::And(a, b) | Node::Or(a, b) | Node::Since(a, b) => a as usize + 256 * b as usize,
+        }
+    }
+}
+
+/// What is remembered of the node of that number from step to step: whether it held a step ago, or whether it ever failed.
 #[derive(Clone, Copy, Debug, PartialEq, Eq)]
 pub enum Item {
     Held(u8),

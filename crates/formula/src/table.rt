@@ -1,7 +1,6 @@
-// Tables by number.
 ghost use Rattle.std.specs.Prelude.{◌≡◌, slice_index_or};
 
-// What a table has at a place, or the other value past its end.
+/// What a table has at a place, counted from 0, or the other value past its end.
 pub fn at<T: Copy>(table: &[T], place: usize, otherwise: T) -> T
     ensures { result ≡ slice_index_or table.now place otherwise }
 {

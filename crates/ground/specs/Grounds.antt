@@ -3,7 +3,7 @@ use Rattle.model.specs.Models.{Model}
 use Rattle.rulebook.specs.Contents as rule
 use Rattle.rulemodel.specs.Meaning.{rule_model}
 use Rattle.sitebook.specs.Contents as site
-use Rattle.sitebook.specs.Models.{site_model}
+use Rattle.sitemodel.specs.Meaning.{site_model}
 use Rattle.ground.specs.declared.GroundBook.{GroundBook}
 use Rattle.ground.specs.declared.GroundBook.TheVariants.{Site, Rule}
 

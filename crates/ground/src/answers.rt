@@ -3,7 +3,7 @@ ghost use Rattle.ground.specs.Grounds.{ground_model};
 ghost use Rattle.rulebook.specs.Contents as rule;
 ghost use Rattle.rulemodel.proofs.RuleLaws.{rule_lawful, rule_ground, rule_numbered};
 ghost use Rattle.sitebook.specs.Contents as site;
-ghost use Rattle.sitebook.specs.Lawful.{site_lawful, site_ground, site_numbered};
+ghost use Rattle.sitemodel.proofs.SiteLaws.{site_lawful, site_ground, site_numbered};
 ghost use Rattle.ground.specs.declared.GroundBook.TheVariants.{Site, Rule};
 
 use crate::GroundBook;

@@ -1,8 +1,9 @@
 -- What a pen has written.
-use Rattle.std.specs.Prelude.{◌≡◌, ℕ, ◌*◌, cond, List, ◌++◌, length, Some, None, Option, nat_lt}
+use Rattle.std.specs.Prelude.{◌≡◌, ℕ, ◌*◌, if◌then◌else◌, List, ◌++◌, length, Some, None, Option, nat_lt}
 use Rattle.pen.specs.declared.Pen.{Pen}
 use Rattle.pen.specs.Bytes.{LaidIn}
 
+-- it has written the words ws
 abbrev pub Laid : List ℕ → Pen → Type 0
 Laid ws p = LaidIn ws p.words p.bytes.now
 
@@ -14,4 +15,4 @@ pub record Adds (ws : List ℕ) (before after : Pen) : Type 0 where
 
 -- the number of words, where a table of so many bytes holds them
 abbrev pub counted : ℕ → List ℕ → Option ℕ
-counted space ws = cond (nat_lt space (4 * length ws)) None (Some (length ws))
+counted space ws = if nat_lt space (4 * length ws) then None else Some (length ws)

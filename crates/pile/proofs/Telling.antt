@@ -12,7 +12,7 @@ use Rattle.formula.proofs.Trees.{length-formulas}
 use Rattle.model.specs.Histories.{final, by_itself, History, Path, grounds, Unfolds}
 use Rattle.model.specs.Models.{Model, Lawful, Ground}
 use Rattle.model.proofs.Paths.{some_history, under_one, history_take, history_wider}
-use Rattle.truth.specs.Truth.{Trace, labelled, before, holds, Holds}
+use Rattle.truth.specs.Truth.{Trace, labelled, before, holds, IsTrueAt}
 use Rattle.truth.proofs.Plain.{plain_truth}
 use Rattle.truth.proofs.Unfolding.{holds_local}
 use Rattle.words.specs.Tests.{all}
@@ -113,7 +113,7 @@ not_plain false Q same = (λ e q. both_ways false refl (same.1 q), λ none. refl
 
 told_plain : (b : Book) (τ : Trace) (x : Item) (j : ℕ) → IsTrue (tells b.nodes τ x j) ↔ Told b τ x j
 told_plain b τ (Held i) j = plain_truth (formula_at b i) τ j
-told_plain b τ (Failed i) j = not_plain (holds (formula_at b i) τ j) (Holds (formula_at b i) τ j) (plain_truth (formula_at b i) τ j)
+told_plain b τ (Failed i) j = not_plain (holds (formula_at b i) τ j) (IsTrueAt (formula_at b i) τ j) (plain_truth (formula_at b i) τ j)
 
 -- what is earned, as the amounts of the wishes that hold
 earned_filter : (sum : ℤ) (ws : List Wish) (vs : List Bool) → earned sum ws vs ≡ fold ◌+ℤ◌ sum (map amount (filter (wish_held vs) ws))
@@ -278,7 +278,7 @@ module _ (g : Model) (law : Lawful g) (own : Ground g) where
       low : sh.shown.mask h < 2 ^ m.labels
       low = subst (λ k. k < 2 ^ m.labels) (mask_below h hist) ((piled_lawful g lower ok_lower law).shows.labelled (state_below m (wishes b ∷ upper) (whole.code h)))
 
-      wish_bit : (k : ℕ) (w : Wish) → slice_get b.wishes k ≡ Some w → IsTrue (labelled (pile.mask (final p)) (m.labels + k)) ↔ Holds (formula_at b w.node) shown (end_of p)
+      wish_bit : (k : ℕ) (w : Wish) → slice_get b.wishes k ≡ Some w → IsTrue (labelled (pile.mask (final p)) (m.labels + k)) ↔ IsTrueAt (formula_at b w.node) shown (end_of p)
       wish_bit k w here =
           let inside = slice_get_within b.wishes k w here in
           let room : (over m (Some b)).labels ≡ m.labels + length b.wishes = ap (λ (x : Model). x.labels) (cond-true (fits m b) (layered m b) m fit) in
@@ -290,7 +290,7 @@ module _ (g : Model) (law : Lawful g) (own : Ground g) where
           ∙ ap (λ (y : Wish). holds (formula_at b y.node) (trace_of sh.shown.mask h) (end_of h)) (get_or_from_slice_get b.wishes k w w here)
           ∙ ap (holds (formula_at b w.node) (trace_of sh.shown.mask h)) same_end
           ∙ truth_is (formula_at b w.node) (end_of p) (omega (arith, some)) in
-          subst (λ t. IsTrue t ↔ Holds (formula_at b w.node) shown (end_of p)) (sym is) (plain_truth (formula_at b w.node) shown (end_of p))
+          subst (λ t. IsTrue t ↔ IsTrueAt (formula_at b w.node) shown (end_of p)) (sym is) (plain_truth (formula_at b w.node) shown (end_of p))
 
       label_bit : (q : ℕ) → q < m.labels → labelled (pile.mask (final p)) q ≡ labelled (m.mask (state_below m (wishes b ∷ upper) (final p))) q
       label_bit q l =

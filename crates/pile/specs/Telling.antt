@@ -7,7 +7,7 @@ use Rattle.formula.specs.declared.Item.TheVariants.{Held, Failed}
 use Rattle.formula.specs.Formulas.{Formula, truth, formulas}
 use Rattle.model.specs.Histories.{final, Path}
 use Rattle.model.specs.Models.{Model}
-use Rattle.truth.specs.Truth.{Trace, labelled, holds, Holds}
+use Rattle.truth.specs.Truth.{Trace, labelled, holds, IsTrueAt}
 use Rattle.wishbook.specs.Book.{Book}
 use Rattle.wishlayout.specs.declared.Wish.{Wish}
 use Rattle.wishlayout.specs.Wishes.{amount}
@@ -38,8 +38,8 @@ formula_at b i = slice_index_or (formulas b.nodes) i truth
 
 -- what an item tells of a position: that its node holds there, or that it does not
 abbrev pub Told : Book → Trace → Item → ℕ → Type 0
-Told b τ (Held i) j = Holds (formula_at b i) τ j
-Told b τ (Failed i) j = Holds (formula_at b i) τ j → ⊥
+Told b τ (Held i) j = IsTrueAt (formula_at b i) τ j
+Told b τ (Failed i) j = IsTrueAt (formula_at b i) τ j → ⊥
 
 -- one position earlier; there is none before the first
 abbrev pub OneEarlier : ℕ → (ℕ → Type 0) → Type 0
@@ -67,7 +67,7 @@ module _ (m : Model) (b : Book) (upper : List Floor) (pile : Model) (p : List �
         → IsTrue (labelled (memory_of_floor m b upper (final p)) k) ↔ OneEarlier (end_of p) (Told b shown x)
     -- the bit of wish k, above the labels below, is set just where the wish holds at the end
     pub wishes : (k : ℕ) (w : Wish) → slice_get b.wishes k ≡ Some w
-        → IsTrue (labelled (pile.mask (final p)) (m.labels + k)) ↔ Holds (formula_at b w.node) shown (end_of p)
+        → IsTrue (labelled (pile.mask (final p)) (m.labels + k)) ↔ IsTrueAt (formula_at b w.node) shown (end_of p)
     -- the bits of the labels below are those that the floors below show
     pub labels : (q : ℕ) → q < m.labels → labelled (pile.mask (final p)) q ≡ labelled (m.mask state_under) q
     -- the reward is the one below, and the amounts of just the wishes that hold at the end

@@ -2,7 +2,7 @@
 use Rattle.std.proofs.Common.{◌≡◌, ℕ, ◌-◌, ◌*◌, [], ◌∷◌, ◌++◌, length, take, replicate, Ok, sym, ap, ◌∙◌, arith}
 use Rattle.std.proofs.lemmas.List.{take-append-le, take_all, length_push}
 use Rattle.model.specs.Models.{Model}
-use Rattle.pen.specs.Bytes.{padded}
+use Rattle.pen.specs.Bytes.{zero_padded}
 use Rattle.pen.proofs.Laying.{bytes_length}
 use Rattle.sitelayout.specs.Layout.{site_format, site_words}
 use Rattle.words.specs.Format.{file, got, reading}
@@ -12,7 +12,7 @@ use Rattle.writeout.specs.Tables.{Represents, outcome, out_book}
 use Rattle.writeout.proofs.Outcomes.{wrote}
 
 -- as many bytes as the words have, from the front
-pub rereads : (m : Model) → Represents m → (places space : ℕ) (w : Written) → outcome m places space ≡ Ok w → reading site_format (take (4 * w.words) (padded space (file (site_words (out_book m))))) ≡ got (out_book m)
+pub rereads : (m : Model) → Represents m → (places space : ℕ) (w : Written) → outcome m places space ≡ Ok w → reading site_format (take (4 * w.words) (zero_padded space (file (site_words (out_book m))))) ≡ got (out_book m)
 rereads m faithful places space w e =
     let told = wrote m places space w e in
     let bytes = file (site_words (out_book m)) in

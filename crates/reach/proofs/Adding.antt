@@ -6,7 +6,7 @@ use Rattle.refusal.specs.declared.Refusal.TheVariants.{TooManyStates}
 use Rattle.std.specs.declared.cmp.PartialEq as equality
 use Rattle.register.specs.declared.Key as key
 use Rattle.register.specs.declared.Register.{Register}
-use Rattle.register.specs.Listed.{listed}
+use Rattle.register.specs.Register.{keys_of}
 use Rattle.model.specs.declared.Outcome.{Outcome}
 use Rattle.model.specs.Histories.{targets_of}
 use Rattle.model.specs.Models.{Model, Lawful}
@@ -24,8 +24,8 @@ pub added_all : (held now' after ks js : List ℕ) → now' ≡ enter_all eqb he
 added_all held now' after ks js e f = f ∙ ap (λ l. enter_all eqb l js) e ∙ sym (enter_all-append eqb held ks js)
 
 module _ {k : key.Ghosts ℕ} {e : equality.Ghosts ℕ} where
-  pub listed-length : (c : Register ℕ k e) → length (listed c) ≡ c.len
-  listed-length c = length-take-le c.len c.keys.now c.fits
+  pub length-keys_of : (c : Register ℕ k e) → length (keys_of c) ≡ c.len
+  length-keys_of c = length-take-le c.len c.keys.now c.fits
 
   pub onto_self : (c : Register ℕ k e) → Onto c c
   onto_self c = record { more = omega arith; rest = refl; room = refl; lent = refl }
@@ -43,21 +43,21 @@ module _ {k : key.Ghosts ℕ} {e : equality.Ghosts ℕ} where
   cleared_onto a b x empty same lent onto = (onto.rest ∙ ap (drop x.len) same, onto.room ∙ ap length same, onto.lent ∙ lent)
 
   -- an emptied register holds no code
-  pub cleared_none : (c : Register ℕ k e) → c.len ≡ 0 → listed c ≡ []
+  pub cleared_none : (c : Register ℕ k e) → c.len ≡ 0 → keys_of c ≡ []
   cleared_none c e = ap (λ n. take n c.keys.now) e
 
   -- more codes, after those that were added
-  pub added_on : (a b c : Register ℕ k e) (ks js : List ℕ) → listed b ≡ enter_all eqb (listed a) ks → (a.len ≤ 4096 → b.len ≤ 4096) → Added js b c (Ok tt) → Added (ks ++ js) a c (Ok tt)
-  added_on a b c ks js held few more = (added_all (listed a) (listed b) (listed c) ks js held more.0, λ l. more.1 (few l))
+  pub added_on : (a b c : Register ℕ k e) (ks js : List ℕ) → keys_of b ≡ enter_all eqb (keys_of a) ks → (a.len ≤ 4096 → b.len ≤ 4096) → Added js b c (Ok tt) → Added (ks ++ js) a c (Ok tt)
+  added_on a b c ks js held few more = (added_all (keys_of a) (keys_of b) (keys_of c) ks js held more.0, λ l. more.1 (few l))
 
   -- or some that find no room, whatever was to follow
-  pub added_over : (a b c : Register ℕ k e) (ks js rest : List ℕ) (r : Refusal) → listed b ≡ enter_all eqb (listed a) ks → length b.keys.now ≡ length a.keys.now → Added js b c (Err r) → Added (ks ++ (js ++ rest)) a c (Err r)
+  pub added_over : (a b c : Register ℕ k e) (ks js rest : List ℕ) (r : Refusal) → keys_of b ≡ enter_all eqb (keys_of a) ks → length b.keys.now ≡ length a.keys.now → Added js b c (Err r) → Added (ks ++ (js ++ rest)) a c (Err r)
   added_over a b c ks js rest r held room over =
-      let all : enter_all eqb (listed a) (ks ++ (js ++ rest)) ≡ enter_all eqb (enter_all eqb (listed b) js) rest =
-      enter_all-append eqb (listed a) ks (js ++ rest)
+      let all : enter_all eqb (keys_of a) (ks ++ (js ++ rest)) ≡ enter_all eqb (enter_all eqb (keys_of b) js) rest =
+      enter_all-append eqb (keys_of a) ks (js ++ rest)
       ∙ ap (λ l. enter_all eqb l (js ++ rest)) (sym held)
-      ∙ enter_all-append eqb (listed b) js rest in
-      (over.0, omega (arith, over.1, ap length all, enter_all-length eqb (enter_all eqb (listed b) js) rest, room))
+      ∙ enter_all-append eqb (keys_of b) js rest in
+      (over.0, omega (arith, over.1, ap length all, enter_all-length eqb (enter_all eqb (keys_of b) js) rest, room))
 
 -- a code that stands at the limit is one too many
 pub entered_over : (held : List ℕ) (code : ℕ) → 4096 ≤ place_of eqb code held → 4096 < length (enter eqb code held)

@@ -6,7 +6,7 @@ use Rattle.refusal.specs.declared.Refusal.TheVariants.{TooManyStates}
 use Rattle.register.specs.declared.Key as key
 use Rattle.register.specs.declared.Register.{Register}
 use Rattle.register.specs.Keys.{enter_all}
-use Rattle.register.specs.Listed.{listed}
+use Rattle.register.specs.Register.{keys_of}
 
 -- how many states are listed at most over a table of n places
 abbrev pub room_in : ℕ → ℕ
@@ -16,10 +16,10 @@ module _ {k : key.Ghosts ℕ} {e : equality.Ghosts ℕ} where
   -- all of the codes are listed, or there are more than the room
   abbrev pub Added : List ℕ → Register ℕ k e → Register ℕ k e → Result ⊤ Refusal → Type 0
   Added codes before after (Ok _) =
-      (listed after ≡ enter_all nat_eq (listed before) codes) × (before.len ≤ 4096 → after.len ≤ 4096)
+      (keys_of after ≡ enter_all nat_eq (keys_of before) codes) × (before.len ≤ 4096 → after.len ≤ 4096)
   Added codes before after (Err r) =
       (r ≡ TooManyStates)
-      × (room_in (length before.keys.now) < length (enter_all nat_eq (listed before) codes))
+      × (room_in (length before.keys.now) < length (enter_all nat_eq (keys_of before) codes))
 
   -- codes are listed in the same table, which is as it was after them
   pub record Onto (before after : Register ℕ k e) : Type 0 where

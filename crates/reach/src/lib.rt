@@ -2,12 +2,12 @@
 
 #![tactic(auto)]
 
-ghost use Rattle.bounded.specs.Listed.{listed as ways};
+ghost use Rattle.bounded.specs.Listed.{listed};
 ghost use Rattle.model.specs.Histories.{targets_of};
 ghost use Rattle.reach.specs.Adding.{AddsCodes, room_in};
 ghost use Rattle.reach.specs.Reached.{Searched};
 ghost use Rattle.reach.specs.Search.{leads_to};
-ghost use Rattle.register.specs.Listed.{listed};
+ghost use Rattle.register.specs.Register.{keys_of};
 ghost use Rattle.std.specs.Prelude.{◌≡◌, [], ◌∷◌, length, drop};
 
 use model::{Outcomes, SiteModel};
@@ -25,7 +25,7 @@ const MOST: usize = 4096;
 /// promised of what the register then lists.
 pub fn search<M: SiteModel>(m: &M, codes: &mut Register<u64>) -> Result<(), Refusal>
     ensures answer { Searched (M.SiteModel.meaning m.now) (room_in (length codes.old.keys.now))
-        (listed codes.new) result }
+        (keys_of codes.new) result }
     ensures rest { drop codes.new.len codes.new.keys.now ≡ drop codes.new.len codes.old.keys.now }
     ensures room { length codes.new.keys.now ≡ length codes.old.keys.now }
     ensures lent { codes.new.keys.ghost_name ≡ codes.old.keys.ghost_name }
@@ -53,7 +53,7 @@ fn add_targets<M: SiteModel>(m: &M, state: u64, codes: &mut Register<u64>) -> Re
 
 // Adds the unlisted targets of an action's outcomes, in order.
 fn add_outcomes(outcomes: &Outcomes, codes: &mut Register<u64>) -> Result<(), Refusal>
-    ensures { AddsCodes (targets_of (ways outcomes.now)) codes.old codes.new result }
+    ensures { AddsCodes (targets_of (listed outcomes.now)) codes.old codes.new result }
 {
     for way in outcomes.as_slice() {
         list(codes, way.target)?;

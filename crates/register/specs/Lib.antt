@@ -1,3 +1,3 @@
 pub mod Chains
 pub mod Keys
-pub mod Listed
+pub mod Register

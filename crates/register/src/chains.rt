@@ -33,7 +33,9 @@ impl Chains {
     // One place more, unless all are chained. The contract of a slice's `get_mut` does not say what a table becomes.
     pub(crate) fn link(&mut self, place: usize, bucket: usize)
         requires { bucket < 7919 }
-        ensures linked { (bs : List ℕ) → place < 4096 → place < length bs → Chained self.old.heads self.old.earlier bs place → Chained self.new.heads self.new.earlier (slice_set bs place bucket) (place + 1) }
+        ensures linked { (bs : List ℕ) → place < 4096 → place < length bs
+            → Chained self.old.heads self.old.earlier bs place
+            → Chained self.new.heads self.new.earlier (slice_set bs place bucket) (place + 1) }
         ensures full { 4096 ≤ place → self.new ≡ self.old }
     {
         if place < CHAINED {

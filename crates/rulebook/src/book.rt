@@ -1,5 +1,5 @@
 // A rule book: every value of it is valid.
-ghost use Rattle.std.specs.Prelude.{◌≡◌, true};
+ghost use Rattle.std.specs.Prelude.{IsTrue};
 ghost use Rattle.bounded.specs.Listed.{listed};
 ghost use Rattle.rulelayout.specs.Rule.{valid};
 ghost use Rattle.rulebook.specs.Acts.{rule_from};
@@ -13,5 +13,5 @@ pub struct RuleBook {
     pub(crate) switches: u8,
     pub(crate) start: u16,
     pub(crate) acts: Bounded<Action, 8>,
-    ghost sound: { valid (rule_from switches start (listed acts)) ≡ true },
+    ghost sound: { IsTrue (valid (rule_from switches start (listed acts))) },
 }

@@ -1,5 +1,5 @@
 // A rule book as a ground model: its states are the masks of its switches.
-ghost use Rattle.std.specs.Prelude.{◌≡◌, ◌^◌, ◌<◌, ◌≤◌, true, false, cond, MatchOption};
+ghost use Rattle.std.specs.Prelude.{◌≡◌, ◌^◌, ◌<◌, ◌≤◌, IsTrue, IsFalse, if◌then◌else◌, MatchOption};
 ghost use Rattle.bounded.specs.Listed.{listed};
 ghost use Rattle.rulemodel.specs.Meaning.{act_at, is_switch_mask, offers, rule_model};
 ghost use Rattle.rulebook.specs.Acts.{act_from};
@@ -22,7 +22,7 @@ impl RuleBook {
 
     // The switches that are on in a state: its number. In none, where there is no such state.
     fn switches_on(&self, s: u64) -> u64
-        ensures on { result ≡ cond (is_switch_mask (contents self.now) s) s 0 }
+        ensures on { result ≡ (if is_switch_mask (contents self.now) s then s else 0) }
         ensures small { result < 1024 }
     {
         if s < self.states() { s } else { 0 }
@@ -30,7 +30,9 @@ impl RuleBook {
 
     // The action, where it is offered in the state.
     fn offered(&self, s: u64, a: u32) -> Option<&Action>
-        ensures { MatchOption result (offers (contents self.now) s a ≡ false) (λ x. (offers (contents self.now) s a ≡ true) × (act_at (contents self.now) a ≡ act_from x.now)) }
+        ensures { let offered = offers (contents self.now) s a in
+            MatchOption result (IsFalse offered)
+            (λ x. IsTrue offered × (act_at (contents self.now) a ≡ act_from x.now)) }
     {
         let action = self.acts.as_slice().get(a as usize)?;
         (s < self.states() && needs_met(s, action.on, action.off)).then_some(action)

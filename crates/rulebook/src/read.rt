@@ -21,7 +21,8 @@ use words::{Draft, Turn, open, read};
 impl Table {
     // What is due after one action more. While an action is due there is room for it.
     fn with(mut self, action: Action) -> Stage
-        ensures { length (list_from self) < 8 → draft_from result ≡ acts_read self.head (list_from self ++ act_from action ∷ []) }
+        ensures { length (list_from self) < 8
+            → draft_from result ≡ acts_read self.head (list_from self ++ act_from action ∷ []) }
     {
         let _ = self.acts.push(action);
         if self.acts.len() < self.head.actions as usize {
@@ -35,7 +36,10 @@ impl Table {
 impl Open {
     // What is due after one outcome more. While an outcome is due there is room for it, and for its action.
     fn with(mut self, effect: Effect) -> Result<Stage, Refusal>
-        ensures { length (list_from self.table) < 8 → length (listed self.effects) < 8 → step_from result ≡ filled self.table.head (list_from self.table) self.action (listed self.effects ++ effect ∷ []) }
+        ensures { let acts = list_from self.table in
+            let effects = listed self.effects in
+            length acts < 8 → length effects < 8
+            → step_from result ≡ filled self.table.head acts self.action (effects ++ effect ∷ []) }
     {
         let _ = self.effects.push(effect);
         if self.effects.len() < self.action.count as usize {

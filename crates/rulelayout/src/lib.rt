@@ -100,7 +100,8 @@ pub fn read_masks(kind: u32, switches: u32, word: u32) -> Result<Masks, Refusal>
 // The weights of at most eight outcomes together; there is no answer for more. It takes any slice: a list of at most eight in its
 // place would ask more of callers.
 pub fn total_weight(effects: &[Effect]) -> Option<u32>
-    ensures { MatchOption result (8 < length effects.now) (λ sum. (length effects.now ≤ 8) × (sum ≡ total effects.now)) }
+    ensures { MatchOption result (8 < length effects.now)
+        (λ sum. (length effects.now ≤ 8) × (sum ≡ total effects.now)) }
 {
     if effects.len() > 8 {
         return None;

@@ -42,7 +42,8 @@ fn place_of(ways: &[Outcome], target: u64) -> Option<usize>
 
 // With one more landing: its weight comes to the outcome with this target, or to a new one at the end.
 fn with_landing(mut ways: Outcomes, target: u64, weight: u8) -> Outcomes
-    ensures { length (listed ways) < 8 → weights (listed ways) + weight < 256 → listed result ≡ added (listed ways) target weight }
+    ensures { length (listed ways) < 8 → weights (listed ways) + weight < 256
+        → listed result ≡ added (listed ways) target weight }
 {
     match place_of(&ways, target) {
         Some(place) => {
@@ -62,7 +63,8 @@ fn with_landing(mut ways: Outcomes, target: u64, weight: u8) -> Outcomes
 // list of at most eight in its place would ask more of callers.
 pub fn outcomes_of(s: u64, effects: &[Effect]) -> Outcomes
     ensures outcomes { listed result ≡ outcomes_from s effects.now }
-    ensures gathered { length effects.now ≤ 8 → total effects.now ≤ 8 → Gathered s effects.now (listed result) }
+    ensures gathered { length effects.now ≤ 8 → total effects.now ≤ 8
+        → Gathered s effects.now (listed result) }
 {
     let mut ways = Outcomes::new();
     if total_weight(effects).is_some_and(|sum| sum <= 8) {

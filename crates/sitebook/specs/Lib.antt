@@ -1,6 +1,4 @@
-pub mod Models
 pub mod Tables
 pub mod Contents
 pub mod Storing
 pub mod Reading
-pub mod Lawful

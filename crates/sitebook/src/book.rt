@@ -1,5 +1,5 @@
 // A site book as it is stored.
-ghost use Rattle.std.specs.Prelude.{◌≡◌, true};
+ghost use Rattle.std.specs.Prelude.{◌≡◌, IsTrue};
 ghost use Rattle.sitelayout.specs.Site.{valid};
 ghost use Rattle.siteverdict.specs.Counting.{bound_of};
 ghost use Rattle.sitebook.specs.Tables.{site_of};
@@ -17,6 +17,6 @@ pub use reading::read_site;
 pub struct SiteBook {
     tables: Tables,
     bound: u32,
-    ghost sound: { valid (site_of tables) ≡ true },
+    ghost sound: { IsTrue (valid (site_of tables)) },
     ghost most: { bound ≡ bound_of tables.marks.items },
 }

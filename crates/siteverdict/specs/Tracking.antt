@@ -1,8 +1,8 @@
 -- How the state of the pass follows the draft of the book that is being read: what is due next, and the counts so far.
-use Rattle.std.specs.Prelude.{◌≡◌, ℕ, ◌*◌, ◌<◌, ◌≤◌, true, List, [], map, length, Some, None, Ok, Err, Result, slice_index_or}
+use Rattle.std.specs.Prelude.{◌≡◌, ℕ, ◌*◌, ◌<◌, ◌≤◌, IsTrue, List, [], map, length, Some, None, Ok, Err, Result, slice_index_or}
 use Rattle.bounded.specs.Listed.{listed}
 use Rattle.refusal.specs.declared.Refusal.{Refusal}
-use Rattle.words.specs.Format.{Step, wrong, more, ends}
+use Rattle.words.specs.Format.{Step, wrong, more}
 use Rattle.sitelayout.specs.declared.Head.{Head}
 use Rattle.sitelayout.specs.declared.Mark.{Mark}
 use Rattle.sitelayout.specs.declared.Move.{Move}
@@ -29,7 +29,7 @@ pub record Tabled (c : Counts) (filled offer : ℕ) (ms : List Mark) (cs : List 
   pub bound : bound_of ms ≡ c.bound
   pub cells : length cs ≡ filled
   pub moves : moves_in cs ≡ c.moves
-  pub waiting : waits c.head.actions offer cs ≡ true
+  pub waiting : IsTrue (waits c.head.actions offer cs)
   pub next : offer * c.head.actions < length cs → slice_index_or cs (offer * c.head.actions) [] ≡ []
   pub within : offer ≤ c.head.states
 
@@ -65,5 +65,4 @@ Tracks (phase.Move o) d = AtMove o d
 abbrev pub Leads : {X : Type 0} → (X → Draft → Type 0) → Step Draft → Result X Refusal → Type 0
 Leads At (wrong r) answer = answer ≡ Err r
 Leads At (more d) (Ok x) = At x d
-Leads At (more d) (Err r) = ⊥
-Leads At ends answer = ⊥
+Leads At st answer = ⊥

@@ -2,7 +2,7 @@
 
 #![tactic(auto, unfolding(sitelayout::specs::Layout::read_word, sitelayout::specs::Layout::whole_book))]
 
-ghost use Rattle.std.specs.Prelude.{◌≡◌};
+ghost use Rattle.std.specs.Prelude.{◌≡◌, ◌≢◌};
 ghost use Rattle.words.specs.Words.{kind};
 ghost use Rattle.sitelayout.specs.declared.kind.Kind.TheVariants.{End};
 ghost use Rattle.sitelayout.specs.Kinds.{number_of};
@@ -107,7 +107,8 @@ impl Marks {
 impl Table {
     // Entries rise strictly by state and action.
     fn entry(mut self, word: u32) -> Result<Open, Refusal>
-        ensures { (d : layout.Draft) → AtEntry self d → (kind word ≡ number_of End → ⊥) → Leads AtMove (read_word d word) result }
+        ensures { (d : layout.Draft) → AtEntry self d → kind word ≢ number_of End
+            → Leads AtMove (read_word d word) result }
     {
         let head = self.counts.head;
         let entry = read_entry(word, head.states, head.actions)?;

@@ -1,7 +1,7 @@
--- When a formula holds at a position of a record, as it is told to a person. A record shows a label mask at each position,
--- counted from 0. `holds` is the verdict as a Boolean, with bounded quantifiers; `Holds` is the plain reading, "there is" and
--- "for all". Nothing here remembers anything from one position to the next.
-use Rattle.std.specs.Prelude.{◌≡◌, ℕ, zero, suc, ◌/◌, ◌%◌, ◌^◌, ◌<◌, ◌≤◌, Bool, true, false, not, ◌&&◌, ◌||◌, ◌⊎◌, ◌==◌, nat_lt}
+-- When a formula holds at a position of a record, as it is told to a person (docs/FORMATS.md, "Truth of a formula"). A record shows a label
+-- mask at each position, counted from 0. `holds` is the verdict as a Boolean, with bounded quantifiers; `IsTrueAt` is the plain reading,
+-- "there is" and "for all". Nothing here remembers anything from one position to the next.
+use Rattle.std.specs.Prelude.{◌≡◌, ℕ, zero, suc, ◌/◌, ◌%◌, ◌^◌, ◌<◌, ◌≤◌, ◌↔◌, Bool, true, false, ⊤, IsTrue, not, ◌&&◌, ◌||◌, ◌⊎◌, ◌==◌, nat_lt}
 use Rattle.formula.specs.Formulas.{Formula, atom, truth, negation, conjunction, disjunction, previously, since, always, sometime}
 
 -- the label mask at each position
@@ -44,17 +44,17 @@ holds (sometime a) τ i = some_to i (λ j. holds a τ j)
 
 -- the same, in words: previous only past position 0; since: the right side at some j up to now, the left side at every later
 -- position; always and once over all positions up to now
-abbrev pub Holds : Formula → Trace → ℕ → Type 0
-Holds (atom p) τ i = τ i / 2 ^ p % 2 ≡ 1
-Holds truth τ i = Unit {0}
-Holds (negation a) τ i = Holds a τ i → ⊥
-Holds (conjunction a b) τ i = Holds a τ i × Holds b τ i
-Holds (disjunction a b) τ i = Holds a τ i ⊎ Holds b τ i
-Holds (previously a) τ i = (j : ℕ) × ((suc j ≡ i) × Holds a τ j)
-Holds (since a b) τ i = (j : ℕ) × ((j ≤ i) × (Holds b τ j × ((m : ℕ) → j < m → m ≤ i → Holds a τ m)))
-Holds (always a) τ i = (j : ℕ) → j ≤ i → Holds a τ j
-Holds (sometime a) τ i = (j : ℕ) × ((j ≤ i) × Holds a τ j)
+abbrev pub IsTrueAt : Formula → Trace → ℕ → Type 0
+IsTrueAt (atom p) τ i = τ i / 2 ^ p % 2 ≡ 1
+IsTrueAt truth τ i = ⊤
+IsTrueAt (negation a) τ i = ¬ IsTrueAt a τ i
+IsTrueAt (conjunction a b) τ i = IsTrueAt a τ i × IsTrueAt b τ i
+IsTrueAt (disjunction a b) τ i = IsTrueAt a τ i ⊎ IsTrueAt b τ i
+IsTrueAt (previously a) τ i = (j : ℕ) × ((suc j ≡ i) × IsTrueAt a τ j)
+IsTrueAt (since a b) τ i = (j : ℕ) × ((j ≤ i) × (IsTrueAt b τ j × ((m : ℕ) → j < m → m ≤ i → IsTrueAt a τ m)))
+IsTrueAt (always a) τ i = (j : ℕ) → j ≤ i → IsTrueAt a τ j
+IsTrueAt (sometime a) τ i = (j : ℕ) × ((j ≤ i) × IsTrueAt a τ j)
 
 -- the Boolean form is the plain one
 abbrev pub PlainTruth : Type 0
-PlainTruth = (f : Formula) (τ : Trace) (i : ℕ) → (holds f τ i ≡ true → Holds f τ i) × (Holds f τ i → holds f τ i ≡ true)
+PlainTruth = (f : Formula) (τ : Trace) (i : ℕ) → IsTrue (holds f τ i) ↔ IsTrueAt f τ i

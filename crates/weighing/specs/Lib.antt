@@ -1,4 +1,3 @@
 pub mod Weighings
 pub mod Discounts
 pub mod Lawful
-pub mod Holding

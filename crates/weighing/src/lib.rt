@@ -1,4 +1,4 @@
-// How the values of an action's outcomes are joined into one, and what a reward counts in each slot.
+//! How the values of an action's outcomes are joined into one, and what a reward counts in each slot.
 
 #![tactic(auto)]
 
@@ -10,34 +10,35 @@ mod discounts;
 
 pub use discounts::discount;
 
-// A value has at most the size 2^59.
+/// The greatest value; the least is its negative.
 pub const MOST: i64 = 1 << 59;
 
 const LEAST: i64 = -MOST;
 
-// A joining of values: the weight is that of an outcome, in eighths.
+/// How the values of an action's outcomes are joined into one (docs/FORMATS.md, "Discounts, weighings and worths").
 pub trait Weighing {
     ghost meaning: { Self → Weigh };
 
-    // How much one slot's reward counts more than the next one's, 1 to 8.
+    /// How much one slot's reward counts more than the next one's, 1 to 8.
     fn unit(&self) -> u8
         ensures unit { result ≡ (meaning self.now).unit };
 
-    // What the joining starts from.
+    /// What the joining starts from.
     fn first(&self) -> i64
         ensures first { result ≡ (meaning self.now).first };
 
+    /// The value so far joined with one more, which is that of an outcome with this weight, in eighths.
     fn join(&self, so_far: i64, weight: u8, value: i64) -> i64
         ensures joined { result ≡ (meaning self.now).join so_far weight value };
 
     ghost lawful: { (w : Self) → LawfulWeigh (meaning w) };
 }
 
-// The values' mean, eight times.
+/// The values' mean by their weights, in eighths: eight times the mean where the weights total 8.
 #[derive(Clone, Copy, Debug, PartialEq, Eq)]
 pub struct Mean;
 
-// The least of the values.
+/// The least of the values, whatever their weights.
 #[derive(Clone, Copy, Debug, PartialEq, Eq)]
 pub struct Worst;
 
@@ -80,7 +81,7 @@ impl Weighing for Worst {
     }
 }
 
-// The value held within ±2^59.
+/// The value held within ±2^59: the nearest one there.
 pub fn hold(x: i64) -> i64
     ensures held { result ≡ held x }
 {

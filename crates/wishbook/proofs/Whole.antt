@@ -1,7 +1,7 @@
 -- From what was gathered to the book: the items, that the book is what its words come to, and what the reader answers.
 use Rattle.std.proofs.Common.{◌≡◌, ℕ, ◌<◌, true, cond, ltb, leb, List, [], ◌∷◌, map, length, get_or, Some, Ok, Err, Option, Result, sym, refl, ap, ◌∙◌, subst, arith, rules}
 use Rattle.formula.specs.declared.Node.{Node}
-use Rattle.formula.specs.declared.join.Merged.{Merged}
+use Rattle.formula.specs.declared.merging.Merged.{Merged}
 use Rattle.formula.specs.Formulas.{earlier}
 use Rattle.formula.specs.Items.{kept_items}
 use Rattle.formula.specs.Merging.{nodes_of, numbers_of, Merges, Faithful}

@@ -1,6 +1,6 @@
 -- What a wish book comes to: the different nodes, the wishes by node number, and the memory items in order.
 -- The wishes of a book mean what its node words say: merging changes no formula and no amount. Its items are those of the nodes on which rewards rest.
-use Rattle.std.specs.Prelude.{◌≡◌, ℕ, ◌<◌, Bool, true, ◌&&◌, ◌⊎◌, ◌↔◌, List, [], ◌∷◌, map, length, slice_index, slice_index_or, Contains}
+use Rattle.std.specs.Prelude.{◌≡◌, ℕ, ◌<◌, Bool, IsTrue, ◌&&◌, ◌⊎◌, ◌↔◌, List, [], ◌∷◌, map, length, slice_index, slice_index_or, Contains}
 use Rattle.formula.specs.declared.Node.{Node}
 use Rattle.formula.specs.declared.Node.TheVariants.{True, Previous}
 use Rattle.formula.specs.declared.Item.{Item}
@@ -40,7 +40,7 @@ meant ns (w ∷ ws) = (slice_index_or (formulas ns) w.node truth, w.raised) ∷ 
 
 -- a book means what its node words say
 abbrev pub SameWishes : Type 0
-SameWishes = (f : Wishes) → valid f ≡ true → meant (book_of f).nodes (book_of f).wishes ≡ meant f.nodes f.wishes
+SameWishes = (f : Wishes) → IsTrue (valid f) → meant (book_of f).nodes (book_of f).wishes ≡ meant f.nodes f.wishes
 
 -- some reward rests on the node i: on its own node, and on every operand below that
 abbrev pub RestsOn : Book → ℕ → Type 0
@@ -48,14 +48,15 @@ RestsOn b i = Rests b.nodes (map (λ w. w.node) b.wishes) i
 
 -- a since or a once on which a reward rests, or the operand of a previous on which one rests
 abbrev pub NeedsHeld : Book → ℕ → Type 0
-NeedsHeld b i = (RestsOn b i × (lasting (slice_index_or b.nodes i True) ≡ true)) ⊎ ((k : ℕ) × RestsOn b k × (slice_index_or b.nodes k True ≡ Previous i))
+NeedsHeld b i = (RestsOn b i × IsTrue (lasting (slice_index_or b.nodes i True))) ⊎ ((k : ℕ) × RestsOn b k × (slice_index_or b.nodes k True ≡ Previous i))
 
 -- an always on which a reward rests
 abbrev pub NeedsFailed : Book → ℕ → Type 0
-NeedsFailed b i = RestsOn b i × (is_always (slice_index_or b.nodes i True) ≡ true)
+NeedsFailed b i = RestsOn b i × IsTrue (is_always (slice_index_or b.nodes i True))
 
 -- the items of a book are those that are needed, each once, in the order of the nodes' numbers, held before failed
 pub record KeepsItems (b : Book) : Type 0 where
   pub held : (i : ℕ) → Contains b.items (Held i) ↔ NeedsHeld b i
   pub failed : (i : ℕ) → Contains b.items (Failed i) ↔ NeedsFailed b i
-  pub rising : (j k : ℕ) (d : Item) → j < k → k < length b.items → rank (slice_index_or b.items j d) < rank (slice_index_or b.items k d)
+  pub rising : (j k : ℕ) (d : Item) → j < k → k < length b.items
+      → rank (slice_index_or b.items j d) < rank (slice_index_or b.items k d)

@@ -1,6 +1,6 @@
 // A wish book: the different nodes of its formulas, its wishes and its memory items.
 ghost use Rattle.bounded.specs.Listed.{listed};
-ghost use Rattle.std.specs.Prelude.{◌≡◌, true};
+ghost use Rattle.std.specs.Prelude.{◌≡◌, IsTrue};
 ghost use Rattle.wishbook.specs.Book.{sound as sound_book, items_over};
 
 use bounded::Bounded;
@@ -13,6 +13,6 @@ pub struct WishBook {
     pub(crate) nodes: Bounded<Node, 128>,
     pub(crate) wishes: Bounded<Wish, 16>,
     pub(crate) items: Bounded<Item, 16>,
-    ghost sound: { sound_book (listed nodes) (listed wishes) ≡ true },
+    ghost sound: { IsTrue (sound_book (listed nodes) (listed wishes)) },
     ghost remembers: { listed items ≡ items_over (listed nodes) (listed wishes) },
 }

@@ -2,7 +2,8 @@
 use Rattle.std.proofs.Common.{◌≡◌, ℕ, ◌+◌, ◌≤◌, List, length, drop, Ok, Err, Result, is_ok, false, refl, ap, ◌∙◌, rules}
 use Rattle.refusal.specs.declared.Refusal.{Refusal}
 use Rattle.words.specs.Words.{first_word}
-use Rattle.words.specs.Format.{Step, wrong, more, ends, stop, Format, ending, is_nil, run}
+use Rattle.words.specs.Format.{Step, wrong, more, ends, stop, Format, ending, run}
+use Rattle.words.specs.Tests.{none}
 use Rattle.words.specs.Drafts.{Stepped}
 use Rattle.words.specs.declared.reader.Turn.{Turn}
 use Rattle.words.specs.declared.reader.Turn.TheVariants.{More, End}
@@ -31,7 +32,7 @@ module _ {X S : Type 0} (Follows : X → S → Type 0) where
     pub reads_more : (x : X) → Stepped Follows s (f.step s w) x (Ok More) → (t : S) × (Follows x t × (run f s p bytes ≡ run f t (p + 1) rest))
     reads_more x h = let m = says_more s (f.step s w) x h in (m.0, (m.1.1, runs ∙ ap (after f s p w rest) m.1.0))
 
-    pub reads_end : (x : X) → Stepped Follows s (f.step s w) x (Ok End) → Follows x s × (run f s p bytes ≡ ending (f.finish s) p w (is_nil rest))
+    pub reads_end : (x : X) → Stepped Follows s (f.step s w) x (Ok End) → Follows x s × (run f s p bytes ≡ ending (f.finish s) p w (none rest))
     reads_end x h = let m = says_end s (f.step s w) x h in (m.1, runs ∙ ap (after f s p w rest) m.0)
 
     reads_wrong : (x : X) (r : Refusal) → Stepped Follows s (f.step s w) x (Err r) → run f s p bytes ≡ stop r p

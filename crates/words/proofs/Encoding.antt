@@ -7,7 +7,8 @@ use Rattle.std.proofs.lemmas.Nat.{shr-shr, div-add-mod', div_below}
 use Rattle.refusal.specs.declared.Refusal.{Refusal}
 use Rattle.refusal.specs.declared.Refusal.TheVariants.{WrongEnd}
 use Rattle.words.specs.Words.{word_of, end_word, bytes_of, Bytes, kind}
-use Rattle.words.specs.Format.{Step, wrong, more, ends, got, stop, Format, is_nil, closing, ending, run, reading, file, OnlyEncodings}
+use Rattle.words.specs.Format.{Step, wrong, more, ends, got, stop, Format, closing, ending, run, reading, file, OnlyEncodings}
+use Rattle.words.specs.Tests.{none}
 use Rattle.words.proofs.Reading.{after, run_four}
 
 pub bytes_append : (xs ys : List ℕ) → bytes_of (xs ++ ys) ≡ bytes_of xs ++ bytes_of ys
@@ -43,7 +44,7 @@ word_of_bytes w h =
 pub stop_is_no_book : {B : Type 0} {r : Refusal} {p : ℕ} {b : B} → stop r p ≡ got b → ⊥
 stop_is_no_book e = let z : ◌≡◌ {A = ℕ} 0 1 = cc in omega arith
 
-nil_from : (rest : List ℕ) → is_nil rest ≡ true → rest ≡ []
+nil_from : (rest : List ℕ) → none rest ≡ true → rest ≡ []
 nil_from [] e = refl
 nil_from (x ∷ rest) e = let z : ◌≡◌ {A = ℕ} 0 1 = cc in absurd (omega arith)
 
@@ -51,9 +52,9 @@ closes : {B : Type 0} (whole : Result B Refusal) (p : ℕ) (b : B) → closing w
 closes (Ok x) p b e = cc
 closes (Err r) p b e = absurd (stop_is_no_book e)
 
-pub whole_of : {B : Type 0} (whole : Result B Refusal) (p w : ℕ) (rest : List ℕ) (b : B) → ending whole p w (is_nil rest) ≡ got b → (w % 2 ^ 28 ≡ p) × (rest ≡ []) × (whole ≡ Ok b)
+pub whole_of : {B : Type 0} (whole : Result B Refusal) (p w : ℕ) (rest : List ℕ) (b : B) → ending whole p w (none rest) ≡ got b → (w % 2 ^ 28 ≡ p) × (rest ≡ []) × (whole ≡ Ok b)
 whole_of {B} whole p w rest b e =
-    elim (cases_Bool (eqb (w % 2 ^ 28) p && is_nil rest)) [
+    elim (cases_Bool (eqb (w % 2 ^ 28) p && none rest)) [
       | inl t ↦
           let parts = and_parts _ _ t in
           (eqb-true _ _ parts.0, nil_from rest parts.1, closes whole p b (sym (ap (λ t. cond t (closing whole p) (stop WrongEnd p)) t) ∙ e))

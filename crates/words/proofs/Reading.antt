@@ -4,12 +4,13 @@ use Rattle.std.proofs.lemmas.Bool.{cases_Bool, cond-true, cond-false, and_from, 
 use Rattle.refusal.specs.declared.Refusal.{Refusal}
 use Rattle.refusal.specs.declared.Refusal.TheVariants.{CutOff, WrongEnd}
 use Rattle.words.specs.Words.{word_of, first_word}
-use Rattle.words.specs.Format.{Step, wrong, more, ends, Verdict, got, stop, Format, is_nil, closing, ending, run, PlacesRight}
+use Rattle.words.specs.Format.{Step, wrong, more, ends, Verdict, got, stop, Format, closing, ending, run, PlacesRight}
+use Rattle.words.specs.Tests.{none}
 
 abbrev pub after : {S B : Type 0} → Format S B → S → ℕ → ℕ → List ℕ → Step S → Verdict B
 after f s p w rest (wrong r) = stop r p
 after f s p w rest (more t) = run f t (p + 1) rest
-after f s p w rest ends = ending (f.finish s) p w (is_nil rest)
+after f s p w rest ends = ending (f.finish s) p w (none rest)
 
 module _ {S B : Type 0} (f : Format S B) where
   pub run_short : (s : S) (p : ℕ) (bytes : List ℕ) → length bytes < 4 → run f s p bytes ≡ stop CutOff p
@@ -23,7 +24,7 @@ module _ {S B : Type 0} (f : Format S B) where
   pub run_four : (s : S) (p a b c d : ℕ) (rest : List ℕ) → run f s p (a ∷ b ∷ c ∷ d ∷ rest) ≡ after f s p (word_of a b c d) rest (f.step s (word_of a b c d))
   unfolding run
   run_four s p a b c d rest =
-      elim (f.step s (word_of a b c d)) as (λ st. elim st [ wrong r ↦ stop r p | more t ↦ run f t (p + 1) rest | ends ↦ ending (f.finish s) p (word_of a b c d) (is_nil rest) ] ≡ after f s p (word_of a b c d) rest st)
+      elim (f.step s (word_of a b c d)) as (λ st. elim st [ wrong r ↦ stop r p | more t ↦ run f t (p + 1) rest | ends ↦ ending (f.finish s) p (word_of a b c d) (none rest) ] ≡ after f s p (word_of a b c d) rest st)
       [ wrong r ↦ refl | more t ↦ refl | ends ↦ refl ]
 
   -- what the next word does
@@ -68,7 +69,7 @@ module _ {S B : Type 0} (f : Format S B) where
   module _ (s : S) (p a b c d : ℕ) (rest : List ℕ) (r : Refusal) (q : ℕ) (e : run f s p (a ∷ b ∷ c ∷ d ∷ rest) ≡ stop r q) (below : (t : S) → run f t (p + 1) rest ≡ stop r q → RunsOut t (p + 1) rest q) where
     runs_out_four : (st : Step S) → f.step s (word_of a b c d) ≡ st → RunsOut s p (a ∷ b ∷ c ∷ d ∷ rest) q
     runs_out_four (wrong k) is = runs_out_here s p (a ∷ b ∷ c ∷ d ∷ rest) q (same_place (sym (run_four f s p a b c d rest ∙ ap (after f s p (word_of a b c d) rest) is) ∙ e))
-    runs_out_four ends is = runs_out_here s p (a ∷ b ∷ c ∷ d ∷ rest) q (ending_place (f.finish s) p (word_of a b c d) (is_nil rest) r q (sym (run_four f s p a b c d rest ∙ ap (after f s p (word_of a b c d) rest) is) ∙ e))
+    runs_out_four ends is = runs_out_here s p (a ∷ b ∷ c ∷ d ∷ rest) q (ending_place (f.finish s) p (word_of a b c d) (none rest) r q (sym (run_four f s p a b c d rest ∙ ap (after f s p (word_of a b c d) rest) is) ∙ e))
     runs_out_four (more t) is =
         let later = below t (sym (run_four f s p a b c d rest ∙ ap (after f s p (word_of a b c d) rest) is) ∙ e) in
         let up : p + 1 ≤ q = later.0 in
@@ -97,20 +98,20 @@ turn f s p left rest w st (four, word, tail) is =
     ∙ ap (λ l. after f s p w l (f.step s w)) (sym tail)
     ∙ ap (after f s p w rest) (sym is)
 
-nil_since : (rest : List ℕ) → length rest ≡ 0 → is_nil rest ≡ true
+nil_since : (rest : List ℕ) → length rest ≡ 0 → none rest ≡ true
 nil_since [] h = refl
 nil_since (x ∷ rest) h = absurd (omega arith)
 
-some_since : (rest : List ℕ) → (length rest ≡ 0 → ⊥) → is_nil rest ≡ false
+some_since : (rest : List ℕ) → (length rest ≡ 0 → ⊥) → none rest ≡ false
 some_since [] h = absurd (h refl)
 some_since (x ∷ rest) h = refl
 
 -- an end word with the right number, and nothing after it
-pub right_end : {B : Type 0} (whole : Result B Refusal) (p w : ℕ) (rest : List ℕ) → w % 2 ^ 28 ≡ p → length rest ≡ 0 → ending whole p w (is_nil rest) ≡ closing whole p
-right_end whole p w rest own none = cond-true (eqb (w % 2 ^ 28) p && is_nil rest) (closing whole p) (stop WrongEnd p) (and_from (eqb (w % 2 ^ 28) p) (is_nil rest) (eq-eqb (w % 2 ^ 28) p own) (nil_since rest none))
+pub right_end : {B : Type 0} (whole : Result B Refusal) (p w : ℕ) (rest : List ℕ) → w % 2 ^ 28 ≡ p → length rest ≡ 0 → ending whole p w (none rest) ≡ closing whole p
+right_end whole p w rest own end = cond-true (eqb (w % 2 ^ 28) p && none rest) (closing whole p) (stop WrongEnd p) (and_from (eqb (w % 2 ^ 28) p) (none rest) (eq-eqb (w % 2 ^ 28) p own) (nil_since rest end))
 
-pub wrong_number : {B : Type 0} (whole : Result B Refusal) (p w : ℕ) (rest : List ℕ) → (w % 2 ^ 28 ≡ p → ⊥) → ending whole p w (is_nil rest) ≡ stop WrongEnd p
-wrong_number whole p w rest other = cond-false (eqb (w % 2 ^ 28) p && is_nil rest) (closing whole p) (stop WrongEnd p) (and_left (eqb (w % 2 ^ 28) p) (is_nil rest) (ne_eqb (w % 2 ^ 28) p other))
+pub wrong_number : {B : Type 0} (whole : Result B Refusal) (p w : ℕ) (rest : List ℕ) → (w % 2 ^ 28 ≡ p → ⊥) → ending whole p w (none rest) ≡ stop WrongEnd p
+wrong_number whole p w rest other = cond-false (eqb (w % 2 ^ 28) p && none rest) (closing whole p) (stop WrongEnd p) (and_left (eqb (w % 2 ^ 28) p) (none rest) (ne_eqb (w % 2 ^ 28) p other))
 
-pub more_after : {B : Type 0} (whole : Result B Refusal) (p w : ℕ) (rest : List ℕ) → (length rest ≡ 0 → ⊥) → ending whole p w (is_nil rest) ≡ stop WrongEnd p
-more_after whole p w rest some = cond-false (eqb (w % 2 ^ 28) p && is_nil rest) (closing whole p) (stop WrongEnd p) (and_right (eqb (w % 2 ^ 28) p) (is_nil rest) (some_since rest some))
+pub more_after : {B : Type 0} (whole : Result B Refusal) (p w : ℕ) (rest : List ℕ) → (length rest ≡ 0 → ⊥) → ending whole p w (none rest) ≡ stop WrongEnd p
+more_after whole p w rest some = cond-false (eqb (w % 2 ^ 28) p && none rest) (closing whole p) (stop WrongEnd p) (and_right (eqb (w % 2 ^ 28) p) (none rest) (some_since rest some))

@@ -9,8 +9,8 @@ use Rattle.std.proofs.Math.Seq.{take-suc}
 use Rattle.refusal.specs.declared.Refusal.{Refusal}
 use Rattle.refusal.specs.declared.Refusal.TheVariants.{CutOff, WrongEnd}
 use Rattle.words.specs.Words.{word_of, first_word, end_word, kind, words_of, word_at}
-use Rattle.words.specs.Format.{Step, wrong, more, ends, Verdict, stop, Format, is_nil, closing, ending, run, reading}
-use Rattle.words.specs.Tests.{all}
+use Rattle.words.specs.Format.{Step, wrong, more, ends, Verdict, stop, Format, closing, ending, run, reading}
+use Rattle.words.specs.Tests.{all, none}
 use Rattle.words.specs.Refusing.{word_tests, book_tests, first_failing, at_end, of_word, of_book, DraftOf, OneDraft, NoFurther, Least, PassesAll, CutsOff, EndsWrong, BookRefused, goes_on, Alike, AlikeAtEnd, RefusesRightly}
 use Rattle.words.proofs.Reading.{after, run_short, run_four, run_word, ending_place}
 use Rattle.words.proofs.Encoding.{Passes, stop_is_no_book}
@@ -69,7 +69,7 @@ agree_first n m a b e = sym (take_within n m a) ∙ ap (take n) e ∙ take_withi
 agree_then : (n m : ℕ) (a b : List ℕ) → take (n + m) a ≡ take (n + m) b → take m (drop n a) ≡ take m (drop n b)
 agree_then n m a b e = sym (drop-take n m a) ∙ ap (drop n) e ∙ drop-take n m b
 
-nil_same : (a b : List ℕ) → ltb 0 (length a) ≡ ltb 0 (length b) → is_nil a ≡ is_nil b
+nil_same : (a b : List ℕ) → ltb 0 (length a) ≡ ltb 0 (length b) → none a ≡ none b
 nil_same [] [] e = refl
 nil_same [] (y ∷ b) e = absurd (true≢false (sym (lt-ltb 0 (length (y ∷ b)) (omega arith)) ∙ sym e))
 nil_same (x ∷ a) [] e = absurd (true≢false (sym (lt-ltb 0 (length (x ∷ a)) (omega arith)) ∙ e))
@@ -132,11 +132,11 @@ ended_by whole p w last r q e =
           )
     ]
 
-nil_length : (l : List ℕ) → is_nil l ≡ true → length l ≡ 0
+nil_length : (l : List ℕ) → none l ≡ true → length l ≡ 0
 nil_length [] e = refl
 nil_length (x ∷ l) e = absurd (true≢false (sym e))
 
-some_length : (l : List ℕ) → is_nil l ≡ false → 0 < length l
+some_length : (l : List ℕ) → none l ≡ false → 0 < length l
 some_length [] e = absurd (true≢false e)
 some_length (x ∷ l) e = omega arith
 
@@ -154,7 +154,7 @@ module _ {S B : Type 0} (f : Format S B) (Good : S → Type 0) (written : S → 
     data Halts (s : S) (p : ℕ) (left : List ℕ) (r : Refusal) : Type 0 where
       short : length left < 4 → r ≡ CutOff → Halts s p left r
       refuses : 4 ≤ length left → f.step s (first_word left) ≡ wrong r → Halts s p left r
-      closes_at : 4 ≤ length left → f.step s (first_word left) ≡ ends → ending (f.finish s) p (first_word left) (is_nil (drop 4 left)) ≡ stop r p → Halts s p left r
+      closes_at : 4 ≤ length left → f.step s (first_word left) ≡ ends → ending (f.finish s) p (first_word left) (none (drop 4 left)) ≡ stop r p → Halts s p left r
 
     -- the draft where reading stops, from the draft s at place p on
     record Reached (s : S) (p : ℕ) (bytes : List ℕ) (r : Refusal) (q : ℕ) : Type 0 where
@@ -213,8 +213,8 @@ module _ {S B : Type 0} (f : Format S B) (Good : S → Type 0) (written : S → 
             let same = same_stop (on (wrong k) is) in
             reached_here s p (a ∷ b ∷ c ∷ d ∷ rest) r q good same.1 (refuses (omega arith) (is ∙ ap wrong same.0))
         reached_four ends is =
-            let here = ending_place (f.finish s) p next (is_nil rest) r q (on ends is) in
-            reached_here s p (a ∷ b ∷ c ∷ d ∷ rest) r q good here (closes_at (omega arith) is (ap (λ n. ending (f.finish s) n next (is_nil rest)) (sym here) ∙ on ends is))
+            let here = ending_place (f.finish s) p next (none rest) r q (on ends is) in
+            reached_here s p (a ∷ b ∷ c ∷ d ∷ rest) r q good here (closes_at (omega arith) is (ap (λ n. ending (f.finish s) n next (none rest)) (sym here) ∙ on ends is))
         reached_four (more t) is =
             let kept = steps s t next good is in
             let to = below t kept.0 (on (more t) is) in
@@ -239,7 +239,7 @@ module _ {S B : Type 0} (f : Format S B) (Good : S → Type 0) (written : S → 
     reached s p (a ∷ b ∷ c ∷ d ∷ rest) r q good e = reached_four s p a b c d rest r q good e (λ t g h. reached t (p + 1) rest r q g h) (f.step s (word_of a b c d)) refl
 
     -- the same stop, where the next word is the same, and, at an end word, the same follows
-    halts_alike : (s : S) (p : ℕ) (a b : List ℕ) (r : Refusal) → Halts s p a r → take 4 a ≡ take 4 b → (4 ≤ length a → f.step s (first_word a) ≡ ends → is_nil (drop 4 a) ≡ is_nil (drop 4 b)) → run f s p b ≡ stop r p
+    halts_alike : (s : S) (p : ℕ) (a b : List ℕ) (r : Refusal) → Halts s p a r → take 4 a ≡ take 4 b → (4 ≤ length a → f.step s (first_word a) ≡ ends → none (drop 4 a) ≡ none (drop 4 b)) → run f s p b ≡ stop r p
     halts_alike s p a b r (short few cut) same more_same = run_short f s p b (omega (arith, ap length same, length-take 4 a, length-take 4 b)) ∙ ap (λ t. stop t p) (sym cut)
     halts_alike s p a b r (refuses four bad) same more_same =
         let long = four_taken a b same four in
@@ -250,7 +250,7 @@ module _ {S B : Type 0} (f : Format S B) (Good : S → Type 0) (written : S → 
         let word : first_word b ≡ first_word a = sym (first_taken b long) ∙ ap first_word (sym same) ∙ first_taken a four in
         run_word f s p b long
         ∙ ap (after f s p (first_word b) (drop 4 b)) (ap (f.step s) word ∙ end)
-        ∙ ap (λ w. ending (f.finish s) p w (is_nil (drop 4 b))) word
+        ∙ ap (λ w. ending (f.finish s) p w (none (drop 4 b))) word
         ∙ ap (ending (f.finish s) p (first_word a)) (sym (more_same four end))
         ∙ why
 
@@ -274,7 +274,7 @@ module _ {S B : Type 0} (f : Format S B) (Good : S → Type 0) (written : S → 
           }
 
       alike_where : (a b : List ℕ) (r : Refusal) (p : ℕ) (at : Stopped a r p) → take (4 * (p + 1)) a ≡ take (4 * (p + 1)) b
-          → (4 ≤ length (drop (4 * p) a) → f.step at.draft (first_word (drop (4 * p) a)) ≡ ends → is_nil (drop 4 (drop (4 * p) a)) ≡ is_nil (drop 4 (drop (4 * p) b))) → reading f b ≡ stop r p
+          → (4 ≤ length (drop (4 * p) a) → f.step at.draft (first_word (drop (4 * p) a)) ≡ ends → none (drop 4 (drop (4 * p) a)) ≡ none (drop 4 (drop (4 * p) b))) → reading f b ≡ stop r p
       alike_where a b r p at same more_same =
           let four : 4 * (p + 1) ≡ 4 * p + 4 = omega arith in
           let agree : take (4 * p + 4) a ≡ take (4 * p + 4) b = ap (λ n. take n a) (sym four) ∙ same ∙ ap (λ n. take n b) four in
@@ -343,12 +343,12 @@ module _ {S B : Type 0} (f : Format S B) (Good : S → Type 0) (written : S → 
             left_of : (bytes : List ℕ) (p : ℕ) → length (drop (4 * p) bytes) ≡ length bytes - 4 * p
             left_of bytes p = length-drop (4 * p) bytes
 
-            end_by : (bytes : List ℕ) (r : Refusal) (p : ℕ) (s : S) → Good s → may_end s ≡ true → kind (word_at bytes p) ≡ 15 → 4 * (p + 1) ≤ length bytes → ending (f.finish s) p (word_at bytes p) (is_nil (drop 4 (drop (4 * p) bytes))) ≡ stop r p
+            end_by : (bytes : List ℕ) (r : Refusal) (p : ℕ) (s : S) → Good s → may_end s ≡ true → kind (word_at bytes p) ≡ 15 → 4 * (p + 1) ≤ length bytes → ending (f.finish s) p (word_at bytes p) (none (drop 4 (drop (4 * p) bytes))) ≡ stop r p
                 → ((r ≡ WrongEnd) × ((word_at bytes p ≡ end_word p → ⊥) ⊎ (4 * (p + 1) < length bytes))) ⊎ ((word_at bytes p ≡ end_word p) × (length bytes ≡ 4 * (p + 1)) × (first_failing book_tests (closes s) ≡ Some r) × (of_book r ≡ true))
             unfolding EndedBy
             end_by bytes r p s good may is here e =
                 let after_it = length-drop 4 (drop (4 * p) bytes) in
-                elim (ended_by (f.finish s) p (word_at bytes p) (is_nil (drop 4 (drop (4 * p) bytes))) r p e) [
+                elim (ended_by (f.finish s) p (word_at bytes p) (none (drop 4 (drop (4 * p) bytes))) r p e) [
                   | inl wrong_end ↦ inl (
                     wrong_end.0,
                     elim (wrong_end.1) [
@@ -373,7 +373,7 @@ module _ {S B : Type 0} (f : Format S B) (Good : S → Type 0) (written : S → 
                 let here : 4 * (p + 1) ≤ length bytes = omega (arith, left_of bytes p) in
                 let word = (word_there p bytes here).1 in
                 let at = ends_where s (word_at bytes p) is.good (ap (f.step s) word ∙ end) in
-                an_end (record { there = here; may = at.0; is_end = at.1; by = end_by bytes r p s is.good at.0 at.1 here (ap (λ w. ending (f.finish s) p w (is_nil (drop 4 (drop (4 * p) bytes)))) word ∙ why) })
+                an_end (record { there = here; may = at.0; is_end = at.1; by = end_by bytes r p s is.good at.0 at.1 here (ap (λ w. ending (f.finish s) p w (none (drop 4 (drop (4 * p) bytes)))) word ∙ why) })
 
             cause : (bytes : List ℕ) (r : Refusal) (p : ℕ) (s : S) → reading f bytes ≡ stop r p → DraftOf Good written bytes p s → Cause bytes r p s
             cause bytes r p s e is =
@@ -431,7 +431,7 @@ module _ {S B : Type 0} (f : Format S B) (Good : S → Type 0) (written : S → 
             alike : Alike f
             alike a b r p e own same = alike_where a b r p (stopped a r p e) same (λ four end. no_end (cause a r p (stopped a r p e).draft e (stopped a r p e).is) four end)
               where
-                no_end : Cause a r p (stopped a r p e).draft → 4 ≤ length (drop (4 * p) a) → f.step (stopped a r p e).draft (first_word (drop (4 * p) a)) ≡ ends → is_nil (drop 4 (drop (4 * p) a)) ≡ is_nil (drop 4 (drop (4 * p) b))
+                no_end : Cause a r p (stopped a r p e).draft → 4 ≤ length (drop (4 * p) a) → f.step (stopped a r p e).draft (first_word (drop (4 * p) a)) ≡ ends → none (drop 4 (drop (4 * p) a)) ≡ none (drop 4 (drop (4 * p) b))
                 no_end (no_word few cut) four end = absurd (omega (arith, left_of a p))
                 no_end (a_word at) four end = absurd (wrong_is_not_end (sym at.refuses_it ∙ ap (f.step (stopped a r p e).draft) (word_there p a at.there).1 ∙ end))
                 no_end (an_end at) four end = elim (at.by) [

@@ -1,8 +1,9 @@
 -- A book format: what has been read so far, what one more word does to it, and what the whole comes to at the end word.
 -- Every book is read by it: the first word that is refused decides, and its place is counted from 0.
-use Rattle.std.specs.Prelude.{◌≡◌, ⊤, ℕ, ◌+◌, ◌-◌, ◌*◌, ◌%◌, ◌^◌, Bool, true, false, cond, ◌&&◌, List, [], ◌∷◌, ◌++◌, length, take, Ok, Err, Result, ◌==◌}
+use Rattle.std.specs.Prelude.{◌≡◌, ⊤, ℕ, ◌+◌, ◌-◌, ◌*◌, ◌%◌, ◌^◌, Bool, if◌then◌else◌, ◌&&◌, List, [], ◌∷◌, ◌++◌, length, take, Ok, Err, Result, ◌==◌}
 use Rattle.refusal.specs.declared.Refusal.{Refusal}
 use Rattle.refusal.specs.declared.Refusal.TheVariants.{CutOff, WrongKind, UnusedBit, WrongEnd}
+use Rattle.words.specs.Tests.{none}
 use Rattle.words.specs.Words.{kind, field, word_of, end_word, bytes_of, Bytes}
 
 -- what a word does: it is refused, or read, or it is the end word
@@ -13,11 +14,11 @@ pub data Step (S : Type 0) : Type 0 where
 
 -- go on where the test holds, else refuse
 abbrev pub check : {S : Type 0} → Bool → Refusal → Step S → Step S
-check b r next = cond b next (wrong r)
+check b r next = if b then next else wrong r
 
 -- the same of what one word alone says
 abbrev pub require : {X : Type 0} → Bool → Refusal → Result X Refusal → Result X Refusal
-require b r next = cond b next (Err r)
+require b r next = if b then next else Err r
 
 -- a word of kind k, whose fields are its lowest n bits
 abbrev pub opened : ℕ → ℕ → ℕ → Result ⊤ Refusal
@@ -33,23 +34,20 @@ pub data Verdict (B : Type 0) : Type 0 where
   got : B → Verdict B
   stop : Refusal → ℕ → Verdict B
 
+-- a format: nothing read yet, one word more, and the whole at its end word
 pub record Format (S B : Type 0) : Type 0 where
   pub start : S
   pub step : S → ℕ → Step S
   pub finish : S → Result B Refusal
 
--- no byte is left; `none` of Tests says the same of any list, and this page needs nothing else of that one
-abbrev pub is_nil : List ℕ → Bool
-is_nil [] = true
-is_nil (b ∷ bs) = false
-
+-- the answer where the whole comes to this
 abbrev pub closing : {B : Type 0} → Result B Refusal → ℕ → Verdict B
 closing (Ok b) p = got b
 closing (Err r) p = stop r p
 
 -- at the end word: its number is that of the words before it, nothing follows, and then the book is judged as a whole
 abbrev pub ending : {B : Type 0} → Result B Refusal → ℕ → ℕ → Bool → Verdict B
-ending whole p w last = cond (w % 2 ^ 28 == p && last) (closing whole p) (stop WrongEnd p)
+ending whole p w last = if w % 2 ^ 28 == p && last then closing whole p else stop WrongEnd p
 
 -- reading on from what has been read, at the word of place p
 unfoldable pub run : {S B : Type 0} → Format S B → S → ℕ → List ℕ → Verdict B
@@ -61,9 +59,10 @@ run f s p (a ∷ b ∷ c ∷ d ∷ rest) =
     elim (f.step s (word_of a b c d)) [
       | wrong r ↦ stop r p
       | more t ↦ run f t (p + 1) rest
-      | ends ↦ ending (f.finish s) p (word_of a b c d) (is_nil rest)
+      | ends ↦ ending (f.finish s) p (word_of a b c d) (none rest)
     ]
 
+-- a whole file
 abbrev pub reading : {S B : Type 0} → Format S B → List ℕ → Verdict B
 reading f bytes = run f f.start 0 bytes
 

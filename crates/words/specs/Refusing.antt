@@ -1,6 +1,6 @@
 -- When a refusal is right. Of a format there is told what is known of a draft (`Good`), the words that it was read from (`written`), whether
 -- the end word may come after it (`may_end`), which tests a word after it passes (`passes`), and which the whole does (`closes`).
-use Rattle.std.specs.Prelude.{◌≡◌, ◌≢◌, ◌⊎◌, ℕ, ◌+◌, ◌*◌, ◌<◌, ◌≤◌, Bool, true, false, not, List, [], ◌∷◌, length, take, find, Some, None, Option, nat_lt}
+use Rattle.std.specs.Prelude.{◌≡◌, ◌≢◌, ◌⊎◌, ℕ, ◌+◌, ◌*◌, ◌<◌, ◌≤◌, Bool, true, false, IsTrue, IsFalse, not, List, [], ◌∷◌, length, take, find, Some, None, Option, nat_lt}
 use Rattle.refusal.specs.declared.Refusal.{Refusal}
 use Rattle.refusal.specs.declared.Refusal.TheVariants.{CutOff, WrongKind, UnusedBit, OutOfRange, WrongEnd, WrongTotal, NotRising, NoWait, SwitchTwice, TooManyItems}
 use Rattle.words.specs.Words.{kind, end_word, words_of, word_at}
@@ -53,13 +53,13 @@ OneDraft {S} Good written = (bytes : List ℕ) (p : ℕ) (s t : S) → DraftOf G
 -- with the word that is refused they are those of none, and it is no end word that may come
 abbrev pub NoFurther : {S B : Type 0} → Format S B → (S → Type 0) → (S → List ℕ) → (S → Bool) → Type 0
 NoFurther {S} f Good written may_end =
-    (bytes : List ℕ) (r : Refusal) (p : ℕ) (s : S) → reading f bytes ≡ stop r p → of_word r ≡ true → DraftOf Good written bytes p s
-    → ((t : S) → DraftOf Good written bytes (p + 1) t → ⊥) × (may_end s ≡ true → kind (word_at bytes p) ≢ 15)
+    (bytes : List ℕ) (r : Refusal) (p : ℕ) (s : S) → reading f bytes ≡ stop r p → IsTrue (of_word r) → DraftOf Good written bytes p s
+    → ((t : S) → DraftOf Good written bytes (p + 1) t → ⊥) × (IsTrue (may_end s) → kind (word_at bytes p) ≢ 15)
 
 -- the refusal is the first test that the word does not pass, after the draft of the words before
 abbrev pub Least : {S B : Type 0} → Format S B → (S → Type 0) → (S → List ℕ) → (S → ℕ → Refusal → Bool) → Type 0
 Least {S} f Good written passes =
-    (bytes : List ℕ) (r : Refusal) (p : ℕ) (s : S) → reading f bytes ≡ stop r p → of_word r ≡ true → DraftOf Good written bytes p s
+    (bytes : List ℕ) (r : Refusal) (p : ℕ) (s : S) → reading f bytes ≡ stop r p → IsTrue (of_word r) → DraftOf Good written bytes p s
     → (p < length (words_of bytes)) × (first_failing word_tests (passes s (word_at bytes p)) ≡ Some r)
 
 -- a word that is read passes them all
@@ -75,13 +75,13 @@ CutsOff f = (bytes : List ℕ) (p : ℕ) → reading f bytes ≡ stop CutOff p �
 abbrev pub EndsWrong : {S B : Type 0} → Format S B → (S → Type 0) → (S → List ℕ) → (S → Bool) → Type 0
 EndsWrong {S} f Good written may_end =
     (bytes : List ℕ) (p : ℕ) (s : S) → reading f bytes ≡ stop WrongEnd p → DraftOf Good written bytes p s
-    → (may_end s ≡ true) × (kind (word_at bytes p) ≡ 15) × ((word_at bytes p ≢ end_word p) ⊎ (4 * (p + 1) < length bytes))
+    → IsTrue (may_end s) × (kind (word_at bytes p) ≡ 15) × ((word_at bytes p ≢ end_word p) ⊎ (4 * (p + 1) < length bytes))
 
 -- the whole is refused at an end word that may come and is right, with nothing after it; the refusal is the first test that the whole fails
 abbrev pub BookRefused : {S B : Type 0} → Format S B → (S → Type 0) → (S → List ℕ) → (S → Bool) → (S → Refusal → Bool) → Type 0
 BookRefused {S} f Good written may_end closes =
-    (bytes : List ℕ) (r : Refusal) (p : ℕ) (s : S) → reading f bytes ≡ stop r p → of_book r ≡ true → DraftOf Good written bytes p s
-    → (may_end s ≡ true) × (word_at bytes p ≡ end_word p) × (length bytes ≡ 4 * (p + 1)) × (first_failing book_tests (closes s) ≡ Some r)
+    (bytes : List ℕ) (r : Refusal) (p : ℕ) (s : S) → reading f bytes ≡ stop r p → IsTrue (of_book r) → DraftOf Good written bytes p s
+    → IsTrue (may_end s) × (word_at bytes p ≡ end_word p) × (length bytes ≡ 4 * (p + 1)) × (first_failing book_tests (closes s) ≡ Some r)
 
 -- bytes follow the word at place p
 abbrev pub goes_on : List ℕ → ℕ → Bool
@@ -89,7 +89,7 @@ goes_on bytes p = nat_lt (4 * (p + 1)) (length bytes)
 
 -- two files that agree through the word that is refused are refused alike
 abbrev pub Alike : {S B : Type 0} → Format S B → Type 0
-Alike f = (a b : List ℕ) (r : Refusal) (p : ℕ) → reading f a ≡ stop r p → at_end r ≡ false → take (4 * (p + 1)) a ≡ take (4 * (p + 1)) b → reading f b ≡ stop r p
+Alike f = (a b : List ℕ) (r : Refusal) (p : ℕ) → reading f a ≡ stop r p → IsFalse (at_end r) → take (4 * (p + 1)) a ≡ take (4 * (p + 1)) b → reading f b ≡ stop r p
 
 -- at the end too, where bytes follow in both or in neither
 abbrev pub AlikeAtEnd : {S B : Type 0} → Format S B → Type 0

@@ -1,9 +1,10 @@
-// Words of a book: four bytes each, lowest first.
+//! Words of a book: four bytes each, lowest first (docs/FORMATS.md).
 
 #![tactic(auto)]
 
 ghost use Rattle.std.specs.Prelude.{◌≡◌, ℕ, ◌+◌, ◌*◌, ◌/◌, ◌%◌, ◌^◌, ◌<◌, ◌≤◌, ◌&&◌, length, drop, MatchOption, ◌==◌, nat_lt};
-ghost use Rattle.words.specs.Format.{is_nil, opened};
+ghost use Rattle.words.specs.Format.{opened};
+ghost use Rattle.words.specs.Tests.{none};
 ghost use Rattle.words.specs.Words.{first_word, field as field_of};
 
 use refusal::Refusal;
@@ -14,9 +15,10 @@ mod reader;
 pub use bytes::bytes_of;
 pub use reader::{Draft, Turn, read};
 
-// The next word and what follows it; None where fewer than four bytes are left.
+/// The next word and what follows it; `None` where fewer than four bytes are left.
 pub fn next_word(bytes: &[u8]) -> Option<(u32, &[u8])>
-    ensures { MatchOption result (length bytes.now < 4) (λ x. (4 ≤ length bytes.now) × (x.0 ≡ first_word bytes.now) × (x.1.now ≡ drop 4 bytes.now)) }
+    ensures { MatchOption result (length bytes.now < 4) (λ x.
+        (4 ≤ length bytes.now) × (x.0 ≡ first_word bytes.now) × (x.1.now ≡ drop 4 bytes.now)) }
 {
     let [a, b, c, d, rest @ ..] = bytes else {
         return None;
@@ -24,7 +26,8 @@ pub fn next_word(bytes: &[u8]) -> Option<(u32, &[u8])>
     Some((u32::from_le_bytes([*a, *b, *c, *d]), rest))
 }
 
-// The bits of a word from bit `low` on, `width` of them. An `if` for a shift past the word: `checked_shr` leaves the same two cases.
+/// The bits of a word from bit `low` on, `width` of them; bits past the word are 0.
+// An `if` for a shift past the word: `checked_shr` leaves the same two cases.
 pub fn field(word: u32, low: u32, width: u32) -> u32
     ensures { result ≡ field_of word low width }
 {
@@ -39,22 +42,23 @@ pub fn field(word: u32, low: u32, width: u32) -> u32
     }
 }
 
-// Whether a mask has no bit at or above `count`.
+/// Whether a mask has no bit at or above `count`.
 pub fn fits(mask: u32, count: u32) -> bool
     ensures { result ≡ nat_lt mask (2 ^ count) }
 {
     count >= 32 || mask >> count == 0
 }
 
-// Whether an end word has the right number, that of the words before it, and nothing follows.
+/// Whether an end word at that place has the right number, that of the words before it, and no byte follows. Its kind is not looked at.
 pub fn is_last(word: u32, place: usize, rest: &[u8]) -> bool
-    ensures { result ≡ (word % 2 ^ 28 == place && is_nil rest.now) }
+    ensures { result ≡ (word % 2 ^ 28 == place && none rest.now) }
 {
     word as usize % (1 << 28) == place && rest.is_empty()
 }
 
-// A word of this kind, whose fields are its lowest `width` bits: any other kind is refused, and then a bit above them. The kind is a number
-// here: three formats have each an enum of their own, and a trait over them would be a second name for `as u32`.
+/// A word of this kind, whose fields are its lowest `width` bits: any other kind is refused with `WrongKind`, and then a bit above them with
+/// `UnusedBit` (docs/REFUSALS.md, "Reading").
+// The kind is a number here: three formats have each an enum of their own, and a trait over them would be a second name for `as u32`.
 pub fn open(word: u32, kind: u32, width: u32) -> Result<(), Refusal>
     ensures { result ≡ opened kind width word }
 {

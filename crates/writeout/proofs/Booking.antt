@@ -6,13 +6,13 @@ use Rattle.std.proofs.lemmas.Bool.{cases_Bool, cond-true, cond-false, ltb-false}
 use Rattle.std.specs.declared.cmp.PartialEq as equality
 use Rattle.register.specs.declared.Key as key
 use Rattle.register.specs.declared.Register.{Register}
-use Rattle.register.specs.Listed.{listed}
+use Rattle.register.specs.Register.{keys_of}
 use Rattle.model.specs.Models.{Model, Lawful}
 use Rattle.pen.specs.declared.Pen.{Pen}
-use Rattle.pen.specs.Bytes.{padded, LaidIn}
+use Rattle.pen.specs.Bytes.{zero_padded, LaidIn}
 use Rattle.pen.specs.Laid.{Laid, Adds, counted}
 use Rattle.reach.specs.Search.{codes_of}
-use Rattle.reach.proofs.Adding.{listed-length}
+use Rattle.reach.proofs.Adding.{length-keys_of}
 use Rattle.reach.proofs.Searching.{search_lists, search_exceeds, lists_states, lists_targets}
 use Rattle.reach.proofs.Turns.{codes_some, codes_first}
 use Rattle.sitelayout.specs.Layout.{mark_words, cell_words, site_words}
@@ -50,21 +50,21 @@ counted_some space ws n e =
     (cc, ltb-false space (4 * length ws) f))
     (cases_Bool (ltb space (4 * length ws)))
 
-laid_bytes : (ws : List ℕ) (n : Option ℕ) (bs : List ℕ) (k : ℕ) → LaidIn ws n bs → Some k ≡ counted (length bs) ws → bs ≡ padded (length bs) (bytes_of ws)
+laid_bytes : (ws : List ℕ) (n : Option ℕ) (bs : List ℕ) (k : ℕ) → LaidIn ws n bs → Some k ≡ counted (length bs) ws → bs ≡ zero_padded (length bs) (bytes_of ws)
 laid_bytes ws (Some n) bs k h e = h.1.1
 laid_bytes ws None bs k h e = absurd (omega (arith, h, (counted_some (length bs) ws k (sym e)).1))
 
 -- what a count says of the table
-pub written_book : (b : Site) (p : Pen) (space : ℕ) → Laid (site_words b ++ (end_word (length (site_words b)) ∷ [])) p → length p.bytes.now ≡ space → (r : Option ℕ) → r ≡ words_in space b → (x : List ℕ) → x ≡ p.bytes.now → OnSome r (x ≡ padded (length x) (file (site_words b)))
+pub written_book : (b : Site) (p : Pen) (space : ℕ) → Laid (site_words b ++ (end_word (length (site_words b)) ∷ [])) p → length p.bytes.now ≡ space → (r : Option ℕ) → r ≡ words_in space b → (x : List ℕ) → x ≡ p.bytes.now → OnSome r (x ≡ zero_padded (length x) (file (site_words b)))
 written_book b p space laid size None e x x-is = tt
 written_book b p space laid size (Some k) e x x-is =
-    subst (λ l. l ≡ padded (length l) (file (site_words b))) (sym x-is)
+    subst (λ l. l ≡ zero_padded (length l) (file (site_words b))) (sym x-is)
     (laid_bytes (site_words b ++ (end_word (length (site_words b)) ∷ [])) p.words p.bytes.now k laid (e ∙ ap (λ n. words_in n b) (sym size)))
 
 -- the code table after the search
-pub codes_left : {k : key.Ghosts ℕ} {e : equality.Ghosts ℕ} (c : Register ℕ k e) (cs before x : List ℕ) → listed c ≡ cs → drop c.len c.keys.now ≡ drop c.len before → before ≡ replicate (length before) 0 → length c.keys.now ≡ length before → x ≡ c.keys.now → x ≡ padded (length x) cs
+pub codes_left : {k : key.Ghosts ℕ} {e : equality.Ghosts ℕ} (c : Register ℕ k e) (cs before x : List ℕ) → keys_of c ≡ cs → drop c.len c.keys.now ≡ drop c.len before → before ≡ replicate (length before) 0 → length c.keys.now ≡ length before → x ≡ c.keys.now → x ≡ zero_padded (length x) cs
 codes_left c cs before x is rest zeros room x-is =
-    let size : length before - c.len ≡ length x - length cs = omega (arith, ap length is, listed-length c, ap length x-is) in
+    let size : length before - c.len ≡ length x - length cs = omega (arith, ap length is, length-keys_of c, ap length x-is) in
     let after : drop c.len c.keys.now ≡ replicate (length before - c.len) 0 = rest ∙ ap (drop c.len) zeros ∙ drop-replicate c.len (length before) 0 in
     let table : c.keys.now ≡ cs ++ replicate (length before - c.len) 0 = sym (take-append-drop c.len c.keys.now) ∙ (λ i. is i ++ after i) in
     x-is ∙ table ∙ ap (λ n. cs ++ replicate n 0) size

@@ -8,7 +8,7 @@ use Rattle.model.specs.Models.{Model, Lawful}
 use Rattle.model.proofs.Paths.{one_over}
 use Rattle.register.specs.Keys.{place_of}
 use Rattle.register.proofs.Identity.{eqb_identity, place_of-get_or}
-use Rattle.sitebook.specs.Models.{outcome_of}
+use Rattle.sitemodel.specs.Meaning.{outcome_of}
 use Rattle.writeout.specs.Book.{move_to, cell_of, book_of}
 use Rattle.writeout.specs.Copies.{Copies, by_origin, place_in_book, CarriesOver}
 use Rattle.writeout.proofs.Closed.{Closed, place_below, place_code}

@@ -10,7 +10,7 @@ use Rattle.model.specs.Models.{Model, Lawful}
 use Rattle.words.specs.Tests.{none}
 use Rattle.sitelayout.specs.declared.Mark.{Mark}
 use Rattle.sitelayout.specs.declared.Move.{Move}
-use Rattle.sitebook.specs.Models.{blank, cell_at, outcome_of}
+use Rattle.sitemodel.specs.Meaning.{blank, cell_at, outcome_of}
 use Rattle.writeout.specs.Book.{mark_of, move_to, cell_of, cells_of, book_of}
 use Rattle.writeout.specs.Copies.{outcome_in_model, Copies}
 use Rattle.writeout.proofs.Closed.{Closed, place_code}

@@ -9,8 +9,8 @@ use Rattle.words.proofs.Tests.{all_at}
 use Rattle.sitelayout.specs.declared.Mark.{Mark}
 use Rattle.sitelayout.specs.Site.{Site, valid, good_mark}
 use Rattle.sitelayout.proofs.Valid.{mark_parts, validly}
-use Rattle.sitebook.specs.Models.{mark_at, origin_of, blank}
-use Rattle.sitebook.specs.Lawful.{site_lawful, site_numbered}
+use Rattle.sitemodel.specs.Meaning.{mark_at, origin_of, blank}
+use Rattle.sitemodel.proofs.SiteLaws.{site_lawful, site_numbered}
 use Rattle.writeout.specs.Copies.{by_origin}
 
 past_blank : (b : Site) (s : ℕ) → length b.marks ≤ s → mark_at b s ≡ blank

@@ -7,7 +7,7 @@ use Rattle.model.specs.Histories.{Shown, Unfolds}
 use Rattle.model.specs.Models.{Model}
 use Rattle.register.specs.Keys.{place_of}
 use Rattle.sitelayout.specs.Site.{Site, valid}
-use Rattle.sitebook.specs.Models.{site_model, origin_of}
+use Rattle.sitemodel.specs.Meaning.{site_model, origin_of}
 
 -- the outcome of a listed state that an outcome of the book stands for
 abbrev pub outcome_in_model : List ℕ → Outcome → Outcome

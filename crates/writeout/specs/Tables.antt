@@ -1,7 +1,7 @@
 -- What writing out answers, and what it leaves in the two tables.
 use Rattle.std.specs.Prelude.{◌≡◌, ℕ, ◌+◌, ◌*◌, ◌<◌, ◌≤◌, Bool, List, [], ◌∷◌, ◌++◌, length, Ok, Err, Option, Result, nat_le}
 use Rattle.model.specs.Models.{Model}
-use Rattle.pen.specs.Bytes.{padded}
+use Rattle.pen.specs.Bytes.{zero_padded}
 use Rattle.pen.specs.Laid.{counted}
 use Rattle.reach.specs.Adding.{room_in}
 use Rattle.reach.specs.Reached.{ListsReached, MoreThan}
@@ -56,8 +56,8 @@ words_in space b = counted space (site_words b ++ (end_word (length (site_words 
 
 -- a table of n places afterwards: all 0 on a refusal
 abbrev pub table_after : Result Written Refusal → ℕ → List ℕ → List ℕ
-table_after (Ok w) n xs = padded n xs
-table_after (Err r) n xs = padded n []
+table_after (Ok w) n xs = zero_padded n xs
+table_after (Err r) n xs = zero_padded n []
 
 -- the listed codes and the book stand for the model: the codes are exactly the reached states where
 -- these are at most 4,096, and else there are more than the table holds; the book reads back, and

@@ -1,10 +1,10 @@
 // What a book is written from, and its words, one part after another.
 ghost use Rattle.std.specs.Prelude.{◌≡◌, ◌<◌, ◌≤◌, [], ◌∷◌, length, map, nat_eq, OnSome, pos, ◌+ℤ◌, unsigned_abs};
-ghost use Rattle.bounded.specs.Listed.{listed as ways};
-ghost use Rattle.pen.specs.Bytes.{padded};
+ghost use Rattle.bounded.specs.Listed.{listed};
+ghost use Rattle.pen.specs.Bytes.{zero_padded};
 ghost use Rattle.pen.specs.Laid.{Adds};
 ghost use Rattle.register.specs.Keys.{place_of};
-ghost use Rattle.register.specs.Listed.{listed};
+ghost use Rattle.register.specs.Register.{keys_of};
 ghost use Rattle.sitelayout.specs.Layout.{mark_words, move_words, site_words};
 ghost use Rattle.sitelayout.specs.OneWord.{word_of_reward};
 ghost use Rattle.words.specs.Format.{file};
@@ -21,7 +21,7 @@ use sitelayout::{Entry, Head, Move, Worth, end_word, mask_word};
 pub(crate) struct Listing<'a, 'b, M> {
     pub(crate) model: &'a M,
     pub(crate) codes: &'a Register<'b, u64>,
-    ghost few: { length (listed codes.now) ≤ 4096 },
+    ghost few: { length (keys_of codes.now) ≤ 4096 },
 }
 
 impl<M: SiteModel> Listing<'_, '_, M> {
@@ -29,9 +29,9 @@ impl<M: SiteModel> Listing<'_, '_, M> {
     // many for the table.
     pub(crate) fn write_book(&self, bytes: &mut [u8]) -> Option<usize>
         ensures count { result ≡ words_in (length bytes.old)
-            (book_of (M.SiteModel.meaning self.now.model.now) (listed self.now.codes.now)) }
-        ensures bytes { OnSome result (bytes.new ≡ padded (length bytes.new) (file (site_words
-            (book_of (M.SiteModel.meaning self.now.model.now) (listed self.now.codes.now))))) }
+            (book_of (M.SiteModel.meaning self.now.model.now) (keys_of self.now.codes.now)) }
+        ensures bytes { OnSome result (bytes.new ≡ zero_padded (length bytes.new) (file (site_words
+            (book_of (M.SiteModel.meaning self.now.model.now) (keys_of self.now.codes.now))))) }
     {
         let mut pen = Pen::new(bytes);
         self.write_head(&mut pen);
@@ -44,7 +44,7 @@ impl<M: SiteModel> Listing<'_, '_, M> {
 
     fn write_head(&self, pen: &mut Pen)
         ensures { Adds
-            (head_words (M.SiteModel.meaning self.now.model.now) (listed self.now.codes.now))
+            (head_words (M.SiteModel.meaning self.now.model.now) (keys_of self.now.codes.now))
             pen.old pen.new }
     {
         let sizes = self.model.sizes();
@@ -59,7 +59,7 @@ impl<M: SiteModel> Listing<'_, '_, M> {
     // What each listed state shows.
     fn write_marks(&self, pen: &mut Pen)
         ensures { Adds (mark_words
-            (map (mark_of (M.SiteModel.meaning self.now.model.now)) (listed self.now.codes.now)))
+            (map (mark_of (M.SiteModel.meaning self.now.model.now)) (keys_of self.now.codes.now)))
             pen.old pen.new }
     {
         for code in self.codes.as_slice() {
@@ -79,7 +79,7 @@ impl<M: SiteModel> Listing<'_, '_, M> {
     // All actions in all listed states.
     fn write_cells(&self, pen: &mut Pen)
         ensures { Adds
-            (table_words (M.SiteModel.meaning self.now.model.now) (listed self.now.codes.now))
+            (table_words (M.SiteModel.meaning self.now.model.now) (keys_of self.now.codes.now))
             pen.old pen.new }
     {
         for (place, code) in self.codes.as_slice().iter().enumerate() {
@@ -90,7 +90,7 @@ impl<M: SiteModel> Listing<'_, '_, M> {
     // All actions in the state at a place.
     fn write_state(&self, place: u16, code: u64, pen: &mut Pen)
         ensures { Adds
-            (state_words (M.SiteModel.meaning self.now.model.now) (listed self.now.codes.now)
+            (state_words (M.SiteModel.meaning self.now.model.now) (keys_of self.now.codes.now)
             place code)
             pen.old pen.new }
     {
@@ -103,7 +103,7 @@ impl<M: SiteModel> Listing<'_, '_, M> {
     fn write_cell(&self, place: u16, code: u64, action: u32, pen: &mut Pen)
         requires { action < (M.SiteModel.meaning self.now.model.now).actions }
         ensures { Adds
-            (action_words (M.SiteModel.meaning self.now.model.now) (listed self.now.codes.now)
+            (action_words (M.SiteModel.meaning self.now.model.now) (keys_of self.now.codes.now)
             place code action)
             pen.old pen.new }
     {
@@ -122,7 +122,7 @@ impl<M: SiteModel> Listing<'_, '_, M> {
     // Each outcome leads to the place of its target.
     fn write_moves(&self, outcomes: &Outcomes, pen: &mut Pen)
         ensures { Adds
-            (move_words (map (move_to (listed self.now.codes.now)) (ways outcomes.now)))
+            (move_words (map (move_to (keys_of self.now.codes.now)) (listed outcomes.now)))
             pen.old pen.new }
     {
         for way in outcomes.as_slice() {
@@ -138,7 +138,7 @@ impl<M: SiteModel> Listing<'_, '_, M> {
     // in the definition too: the targets of listed states are listed, so an `Option` would be opened
     // by an arm that never comes.
     fn place_of(&self, code: u64) -> u16
-        ensures { result ≡ place_of nat_eq code (listed self.now.codes.now) }
+        ensures { result ≡ place_of nat_eq code (keys_of self.now.codes.now) }
     {
         self.codes.place(&code).unwrap_or(self.codes.len()) as u16
     }

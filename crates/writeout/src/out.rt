@@ -1,6 +1,6 @@
 // Listing the reachable states, and writing the book of them.
 ghost use Rattle.std.specs.Prelude.{◌≡◌, length, OnOk, replicate};
-ghost use Rattle.pen.specs.Bytes.{padded};
+ghost use Rattle.pen.specs.Bytes.{zero_padded};
 ghost use Rattle.reach.specs.Search.{codes_of};
 ghost use Rattle.sitelayout.specs.Layout.{site_words};
 ghost use Rattle.words.specs.Format.{file};
@@ -19,9 +19,9 @@ fn attempt<M: SiteModel>(m: &M, codes: &mut [u64], bytes: &mut [u8]) -> Result<W
     requires { codes.old ≡ replicate (length codes.old) 0 }
     ensures answer { result ≡ outcome (M.SiteModel.meaning m.now) (length codes.old)
         (length bytes.old) }
-    ensures codes { OnOk result (codes.new ≡ padded (length codes.new)
+    ensures codes { OnOk result (codes.new ≡ zero_padded (length codes.new)
         (codes_of (M.SiteModel.meaning m.now))) }
-    ensures bytes { OnOk result (bytes.new ≡ padded (length bytes.new)
+    ensures bytes { OnOk result (bytes.new ≡ zero_padded (length bytes.new)
         (file (site_words (out_book (M.SiteModel.meaning m.now))))) }
 {
     let mut found = Register::new(codes);

@@ -1,13 +1,13 @@
 // What can be asked of a site book.
-ghost use Rattle.std.specs.Prelude.{◌≡◌, map, take};
-ghost use Rattle.bounded.specs.Listed.{listed};
+ghost use Rattle.std.specs.Prelude.{◌≡◌};
 ghost use Rattle.sitebook.specs.Contents.{contents};
-ghost use Rattle.sitebook.specs.Models.{mark_at, cell_at, outcome_of, origin_of, site_model};
-ghost use Rattle.sitebook.specs.Lawful.{site_lawful, site_ground, site_numbered};
+ghost use Rattle.sitemodel.specs.Meaning.{mark_at, cell_at, origin_of, site_model};
+ghost use Rattle.sitemodel.proofs.SiteLaws.{site_lawful, site_ground, site_numbered};
 
 use crate::book::SiteBook;
-use model::{GroundModel, Numbered, Outcome, Outcomes, SiteModel, Sizes};
+use model::{GroundModel, Numbered, Outcomes, SiteModel, Sizes};
 use sitelayout::{Mark, Move, Worth};
+use sitemodel::outcomes_of;
 
 // No label, no reward, origin 0.
 const BLANK: Mark = Mark {
@@ -45,23 +45,6 @@ impl SiteBook {
     }
 }
 
-// The first eight outcomes, by value. A loop of `push`: see crate bounded.
-fn gathered(moves: &[Move]) -> Outcomes
-    ensures { listed result ≡ take 8 (map outcome_of moves.now) }
-{
-    let mut all = Outcomes::new();
-    for way in moves {
-        let outcome = Outcome {
-            target: way.target as u64,
-            weight: way.weight,
-        };
-        if all.push(outcome).is_err() {
-            return all;
-        }
-    }
-    all
-}
-
 impl SiteModel for SiteBook {
     ghost meaning = { λ b. site_model (contents b) };
 
@@ -92,7 +75,7 @@ impl SiteModel for SiteBook {
     }
 
     fn outcomes(&self, s: u64, a: u32) -> Outcomes {
-        gathered(self.cell(s, a))
+        outcomes_of(self.cell(s, a))
     }
 
     fn sizes(&self) -> Sizes {

@@ -7,7 +7,7 @@ ghost use Rattle.sitelayout.specs.Site.{Site, valid};
 ghost use Rattle.sitelayout.specs.WordTests.{may_end, passes, closes};
 ghost use Rattle.siteverdict.specs.Counting.{Counted};
 ghost use Rattle.sitebook.specs.Contents.{contents};
-ghost use Rattle.sitebook.specs.Reading.{NotRead};
+ghost use Rattle.sitebook.specs.Reading.{Reads};
 ghost use Rattle.sitebook.specs.Storing.{held, nothing};
 
 use crate::book::SiteBook;
@@ -21,7 +21,7 @@ use words::next_word;
 // The book that a file is, or the first refusal and its place; want of memory only where the file is a book.
 #[tactic(auto, using(sitelayout::proofs::Way::site_faithful, sitelayout::proofs::Refusing::site_refuses))]
 pub fn read_site(heap: Global, bytes: &[u8]) -> Result<SiteBook, Unread>
-    ensures reads { MatchResult result (λ b. reading site_format bytes.now ≡ got (contents b)) (λ why. NotRead (reading site_format bytes.now) why) }
+    ensures reads { Reads bytes.now result }
     ensures faithful { Faithful site_format (λ b. IsTrue (valid b)) site_words }
     ensures refuses { RefusesRightly site_format Good written may_end passes closes }
 {

@@ -24,7 +24,8 @@ fn add<T: Copy, const MOST: usize, F: FnOnce() -> Result<T, Refusal>>(
     read: F,
 ) -> Result<Turn, Refusal>
     requires { F.pre read }
-    ensures { (said : Result T Refusal) → ((r : Result T Refusal) → F.post read r → r ≡ said) → Added MOST (listed all.old) said (listed all.new) result }
+    ensures { (said : Result T Refusal) → ((r : Result T Refusal) → F.post read r → r ≡ said)
+        → Added MOST (listed all.old) said (listed all.new) result }
 {
     if all.len() >= MOST {
         return Err(Refusal::WrongKind);

@@ -1,5 +1,5 @@
 use Rattle.std.proofs.Common.{◌∙◌, rules}
-use Rattle.register.specs.Listed.{listed}
+use Rattle.register.specs.Register.{keys_of}
 use Rattle.register.proofs.Counting.{counted, refused, stepped}
 use Rattle.register.proofs.count.distinct.Goals as goal
 
@@ -20,7 +20,7 @@ pub returns-in_err-enter : goal.returns-in_err-enter
 returns-in_err-enter g c =
     let inv = c.loop-key.invariant in
     let told = c.in_err-enter.ensures in
-    refused g.K.PartialEq.eq c.args.keys.now c.new-register.result.keys.now c.args.table.now (listed c.loop-key.register) c.loop-key.register.keys.now c.enter.new.self.keys.now c.enter.new.self.len c.loop-key.key-index c.key-item.result
+    refused g.K.PartialEq.eq c.args.keys.now c.new-register.result.keys.now c.args.table.now (keys_of c.loop-key.register) c.loop-key.register.keys.now c.enter.new.self.keys.now c.enter.new.self.len c.loop-key.key-index c.key-item.result
     c.loop-key-test.true
     c.key-item.is
     inv.0

@@ -1,7 +1,7 @@
 use Rattle.std.proofs.Common.{◌≡◌, length, drop, Some, ap, ◌∙◌, subst, rules}
 use Rattle.std.specs.Option.{OnSome}
-use Rattle.pen.specs.Bytes.{padded}
-use Rattle.register.specs.Listed.{listed}
+use Rattle.pen.specs.Bytes.{zero_padded}
+use Rattle.register.specs.Register.{keys_of}
 use Rattle.reach.specs.Search.{codes_of}
 use Rattle.sitelayout.specs.Layout.{site_words}
 use Rattle.words.specs.Format.{file}
@@ -20,7 +20,7 @@ pub returns-clause-bytes : goal.returns-clause-bytes
 returns-clause-bytes g c =
     let m = g.M.SiteModel.meaning c.args.m.now in
     let bytes = c.write_book.new.bytes in
-    let same : listed c.search.new.codes ≡ codes_of m = c.in_ok-search.ensures.answer.0 in
+    let same : keys_of c.search.new.codes ≡ codes_of m = c.in_ok-search.ensures.answer.0 in
     let some : c.write_book.result ≡ Some c.in_ok-words.words = search rules in
-    subst (λ l. bytes ≡ padded (length bytes) (file (site_words (book_of m l)))) same
-    (subst (λ r. OnSome r (bytes ≡ padded (length bytes) (file (site_words (book_of m (listed c.search.new.codes)))))) some c.write_book.ensures.bytes)
+    subst (λ l. bytes ≡ zero_padded (length bytes) (file (site_words (book_of m l)))) same
+    (subst (λ r. OnSome r (bytes ≡ zero_padded (length bytes) (file (site_words (book_of m (keys_of c.search.new.codes)))))) some c.write_book.ensures.bytes)

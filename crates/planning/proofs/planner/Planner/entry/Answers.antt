@@ -1,7 +1,7 @@
 use Rattle.std.proofs.Common.{◌≡◌, ◌-◌, ◌/◌, ◌%◌, sym, ap, ◌∙◌, w64, to_z, of_z, arith}
 use Rattle.std.proofs.lemmas.Int.{to_z-of_z}
 use Rattle.weighing.specs.Discounts.{discount_of}
-use Rattle.weighing.specs.Holding.{within_fits64}
+use Rattle.weighing.proofs.Holding.{within_fits64}
 use Rattle.weighing.specs.Weighings.{held}
 use Rattle.worth.specs.Worths.{own_part, summed, action_of}
 use Rattle.planning.specs.Plans.{worth_at, choice_at}

@@ -1,5 +1,5 @@
 use Rattle.std.proofs.Common.{◌≡◌, ◌^◌, ◌<◌, [], ◌∷◌, ◌++◌, length, refl, sym, ap, ◌∙◌, subst, arith, rules}
-use Rattle.register.specs.Listed.{listed}
+use Rattle.register.specs.Register.{keys_of}
 use Rattle.pen.specs.Laid.{Laid}
 use Rattle.sitelayout.specs.Layout.{site_words}
 use Rattle.words.specs.Words.{end_word}
@@ -12,7 +12,7 @@ use Rattle.writeout.proofs.listing.Listing.write_book.Goals as goal
 pub overflow_cast-before : goal.overflow_cast-before
 overflow_cast-before g c =
     let m = g.M.SiteModel.meaning c.args.self.now.model.now in
-    let codes = listed c.args.self.now.codes.now in
+    let codes = keys_of c.args.self.now.codes.now in
     let law = g.met.M.SiteModel.lawful c.args.self.now.model.now in
     let laid = laid_book_is m codes (length codes) m.labels m.actions c.new-pen.result c.write_head.new.pen c.write_marks.new.pen c.write_cells.new.pen refl refl refl c.new-pen.ensures.empty c.write_head.ensures c.write_marks.ensures c.write_cells.ensures in
     let some = counted_some _ (site_words (book_of m codes)) c.in_ok-before.before (sym (c.written.ensures (site_words (book_of m codes)) laid) ∙ c.in_ok-before.was) in
@@ -23,7 +23,7 @@ overflow_cast-before g c =
 pub returns-clause-bytes : goal.returns-clause-bytes
 returns-clause-bytes g c =
     let m = g.M.SiteModel.meaning c.args.self.now.model.now in
-    let codes = listed c.args.self.now.codes.now in
+    let codes = keys_of c.args.self.now.codes.now in
     let law = g.met.M.SiteModel.lawful c.args.self.now.model.now in
     let laid = laid_book_is m codes (length codes) m.labels m.actions c.new-pen.result c.write_head.new.pen c.write_marks.new.pen c.write_cells.new.pen refl refl refl c.new-pen.ensures.empty c.write_head.ensures c.write_marks.ensures c.write_cells.ensures in
     let some = counted_some _ (site_words (book_of m codes)) c.in_ok-before.before (sym (c.written.ensures (site_words (book_of m codes)) laid) ∙ c.in_ok-before.was) in

@@ -1,7 +1,7 @@
 use Rattle.std.proofs.Common.{◌≡◌, ◌+◌, ◌*◌, ◌/◌, ◌<◌, ◌≤◌, [], ◌∷◌, map, length, sym, ap, ◌∙◌, subst, arith, rules}
 use Rattle.std.proofs.lemmas.Nat.{div-mul-add, mod-mul-add}
 use Rattle.std.proofs.lemmas.List.{length-map}
-use Rattle.register.specs.Listed.{listed}
+use Rattle.register.specs.Register.{keys_of}
 use Rattle.pen.specs.Laid.{Adds}
 use Rattle.pen.proofs.Laying.{adds_both}
 use Rattle.sitelayout.specs.Layout.{move_words, cell_word}
@@ -13,7 +13,7 @@ use Rattle.writeout.proofs.listing.Listing.write_cell.Goals as goal
 pub returns-then-not-is_empty : goal.returns-then-not-is_empty
 returns-then-not-is_empty g c =
     let m = g.M.SiteModel.meaning c.args.self.now.model.now in
-    let codes = listed c.args.self.now.codes.now in
+    let codes = keys_of c.args.self.now.codes.now in
     let k = c.args.place * m.actions + c.args.action in
     let cell = cell_of m codes c.args.code c.args.action in
     let size : length (cell_of m codes c.args.code c.args.action) ≡ c.len.result = length-map (m.outcomes c.args.code c.args.action) (move_to codes) ∙ sym (c.len.ensures.count ∙ ap length c.outcomes-outcomes.ensures.outcomes) in

@@ -1,6 +1,6 @@
 use Rattle.std.proofs.Common.{◌≡◌, ◌+◌, ◌*◌, ◌<◌, ◌++◌, length, get_or, take, sym, ap, ◌∙◌, subst, arith}
 use Rattle.std.proofs.lemmas.List.{take_more, length-take-le}
-use Rattle.register.specs.Listed.{listed}
+use Rattle.register.specs.Register.{keys_of}
 use Rattle.pen.specs.Laid.{Adds}
 use Rattle.pen.proofs.Laying.{adds_both}
 use Rattle.sitelayout.specs.Layout.{cell_words}
@@ -11,7 +11,7 @@ use Rattle.writeout.proofs.listing.Listing.write_cells.Goals as goal
 pub loop-place-preserved : goal.loop-place-preserved
 loop-place-preserved g c =
     let m = g.M.SiteModel.meaning c.args.self.now.model.now in
-    let codes = listed c.args.self.now.codes.now in
+    let codes = keys_of c.args.self.now.codes.now in
     let same = c.as_slice-code-items.ensures in
     let i = c.loop-place.place in
     let l : i < length codes = omega (arith, c.loop-place-test.true, ap length same) in

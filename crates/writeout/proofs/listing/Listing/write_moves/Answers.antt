@@ -1,6 +1,6 @@
 use Rattle.std.proofs.Common.{◌≡◌, ◌+◌, [], ◌∷◌, ◌++◌, map, get_or, take, sym, ap, ◌∙◌, subst}
 use Rattle.std.proofs.lemmas.List.{map_more}
-use Rattle.register.specs.Listed.{listed}
+use Rattle.register.specs.Register.{keys_of}
 use Rattle.model.specs.declared.Outcome.{Outcome}
 use Rattle.pen.specs.Laid.{Adds}
 use Rattle.pen.proofs.Laying.{adds_both}
@@ -12,7 +12,7 @@ use Rattle.writeout.proofs.listing.Listing.write_moves.Goals as goal
 
 pub loop-way-preserved : goal.loop-way-preserved
 loop-way-preserved g c =
-    let codes = listed c.args.self.now.codes.now in
+    let codes = keys_of c.args.self.now.codes.now in
     let os = c.as_slice-way-items.result.now in
     let i = c.loop-way.way-index in
     let d : Outcome = record { target = 0; weight = 0 } in
