@@ -1,6 +1,7 @@
 -- What stands at a place of the plan, from what stands at the places before it. For others: `picked_within`, `picked_small`,
 -- `pick_more`, `pick_past`, `last_worth`, `first_row` and `entry_there`.
-use Rattle.std.proofs.Common.{◌≡◌, ℕ, suc, ◌+◌, ◌-◌, ◌*◌, ◌/◌, ◌%◌, ◌<◌, ◌≤◌, Bool, true, false, cond, List, [], ◌∷◌, ℤ, pos, Some, None, IfSome, Option, get_or, take, drop, refl, sym, ap, ◌∙◌, subst, mul_comm, mul-suc, suc-mul, add-one, arith}
+use Rattle.std.proofs.Common.{◌≡◌, ℕ, suc, ◌+◌, ◌-◌, ◌*◌, ◌/◌, ◌%◌, ◌<◌, ◌≤◌, Bool, true, false, List, [], ◌∷◌, ℤ, pos, Some, None, IfSome, Option, get_or, take, drop, refl, sym, ap, ◌∙◌, subst, mul_comm, mul-suc, suc-mul, add-one, arith}
+use Rattle.std.specs.Prelude.{if◌then◌else◌}
 use Rattle.std.proofs.lemmas.List.{get_or-take, get_or-drop}
 use Rattle.std.proofs.lemmas.Nat.{div-mul-add, mod-mul-add}
 use Rattle.std.proofs.Math.Nat.{div-add-mod, mod-lt}
@@ -12,7 +13,7 @@ use Rattle.weighing.specs.Weighings.{Weigh, LawfulWeigh, Within, held}
 use Rattle.worth.specs.declared.Pick.{Pick}
 use Rattle.worth.specs.Worths.{joined, joined_from, own_part, summed, better, pick_below, pick_at, worth_by, worth_of, choice_of, action_of}
 use Rattle.worth.proofs.Joining.{joined_same}
-use Rattle.worth.proofs.Picking.{pick_same, pick_offered}
+use Rattle.worth.proofs.Picking.{pick_same, pick_told}
 use Rattle.planning.specs.Plans.{HoldsTo, worth_at, choice_at}
 
 -- what is joined is held
@@ -26,13 +27,13 @@ joined_within w law value os = within_from w law value w.first os law.first_held
 -- and so is the value of what is picked, whose action is one of the model's
 pub picked_within : (w : Weigh) → LawfulWeigh w → (m : Model) (f : ℕ → ℤ) (s : ℕ) (o : Option Pick) → o ≡ pick_at w m f s → IfSome o (λ p. Within p.value)
 picked_within w law m f s o is =
-    let told = λ (p : Pick) (e : pick_at w m f s ≡ Some p). subst Within (sym (pick_offered (m.offered s) (λ a. joined w f (m.outcomes s a)) m.actions p e).2) (joined_within w law f (m.outcomes s p.action)) in
+    let told = λ (p : Pick) (e : pick_at w m f s ≡ Some p). subst Within (sym (pick_told (m.offered s) (λ a. joined w f (m.outcomes s a)) m.actions p e).valued) (joined_within w law f (m.outcomes s p.action)) in
     let each : (q : Option Pick) → q ≡ pick_at w m f s → IfSome q (λ p. Within p.value) = λ q. elim q as (λ q. q ≡ pick_at w m f s → IfSome q (λ p. Within p.value)) [ None ↦ (λ e. tt) | Some p ↦ (λ e. told p (sym e)) ] in
     each o is
 
 pub picked_small : (w : Weigh) (m : Model) → Lawful m → (f : ℕ → ℤ) (s : ℕ) (o : Option Pick) → o ≡ pick_at w m f s → action_of o < 8
 picked_small w m law f s o is =
-    let told = λ (p : Pick) (e : pick_at w m f s ≡ Some p). (pick_offered (m.offered s) (λ a. joined w f (m.outcomes s a)) m.actions p e).0 in
+    let told = λ (p : Pick) (e : pick_at w m f s ≡ Some p). (pick_told (m.offered s) (λ a. joined w f (m.outcomes s a)) m.actions p e).inside in
     let each : (q : Option Pick) → q ≡ pick_at w m f s → action_of q < 8 = λ q. elim q as (λ q. q ≡ pick_at w m f s → action_of q < 8) [ None ↦ (λ e. omega arith) | Some p ↦ (λ e. omega (arith, told p (sym e), law.moves.acts.1)) ] in
     each o is
 
@@ -41,13 +42,13 @@ pub pick_more : (offers : ℕ → Bool) (values : ℕ → ℤ) (n : ℕ) (o next
 pick_more offers values n o next so on is =
     is
     ∙ ap (λ q. better q n (values n)) so
-    ∙ ap (λ b. cond b (better (pick_below offers values n) n (values n)) (pick_below offers values n)) (sym on)
+    ∙ ap (λ b. if b then better (pick_below offers values n) n (values n) else pick_below offers values n) (sym on)
     ∙ ap (pick_below offers values) (sym (add-one n))
 
 pub pick_past : (offers : ℕ → Bool) (values : ℕ → ℤ) (n : ℕ) (o : Option Pick) → o ≡ pick_below offers values n → offers n ≡ false → o ≡ pick_below offers values (n + 1)
 pick_past offers values n o so off =
     so
-    ∙ ap (λ b. cond b (better (pick_below offers values n) n (values n)) (pick_below offers values n)) (sym off)
+    ∙ ap (λ b. if b then better (pick_below offers values n) n (values n) else pick_below offers values n) (sym off)
     ∙ ap (pick_below offers values) (sym (add-one n))
 
 module _ (w : Weigh) (m : Model) (law : Lawful m) (num : NumberedBy m) (horizon : ℕ) where

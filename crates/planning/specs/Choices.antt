@@ -6,11 +6,11 @@ use Rattle.weighing.specs.Weighings.{Weigh, held, mean, worst, free_mean, free_w
 use Rattle.worth.specs.declared.Pick.{Pick}
 use Rattle.worth.specs.Choosing.{Picks}
 use Rattle.worth.specs.Worths.{joined, own_part, worth_by, worth_of}
-use Rattle.planning.specs.Plans.{row_worth}
+use Rattle.planning.specs.Plans.{stored_worth}
 
 -- the worth that stands in the table for a state with k slots left
 abbrev pub worth_in : Model → List ℤ → ℕ → ℕ → ℤ
-worth_in m worths k s = row_worth worths (k * m.span + s)
+worth_in m worths k s = stored_worth worths (k * m.span + s)
 
 -- the value of an action in a state with k slots left: its outcomes joined in order, with their worths at one slot less
 abbrev pub value_in : Weigh → Model → List ℤ → ℕ → ℕ → ℕ → ℤ

@@ -12,9 +12,9 @@ use Rattle.worth.specs.declared.Pick.{Pick}
 use Rattle.worth.specs.Policies.{Policy, Best}
 use Rattle.worth.specs.Worths.{worth_of, choice_of}
 
--- the worth that a row of worths has for a state; what it has no place for counts 0
-abbrev pub row_worth : List ℤ → ℕ → ℤ
-row_worth worths s = slice_index_or worths s (pos 0)
+-- the worth that is stored at a place; what there is no place for counts 0
+abbrev pub stored_worth : List ℤ → ℕ → ℤ
+stored_worth worths p = slice_index_or worths p (pos 0)
 
 -- by place, for a model whose states are the numbers below its span
 abbrev pub worth_at : Weigh → Model → ℕ → ℕ → ℤ

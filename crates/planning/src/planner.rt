@@ -4,7 +4,7 @@ ghost use Rattle.bounded.specs.Listed.{listed as ways};
 ghost use Rattle.weighing.specs.Discounts.{discount_of};
 ghost use Rattle.weighing.specs.Weighings.{Within, held};
 ghost use Rattle.worth.specs.Worths.{action_of, joined, own_part, pick_at, summed};
-ghost use Rattle.planning.specs.Plans.{choice_at, EntryAt, Filled, HoldsTo, row_worth, worth_at};
+ghost use Rattle.planning.specs.Plans.{choice_at, EntryAt, Filled, HoldsTo, stored_worth, worth_at};
 
 use model::{Numbered, Outcome, Outcomes};
 use weighing::{Weighing, discount, hold};
@@ -68,7 +68,7 @@ impl<M: Numbered, W: Weighing> Planner<'_, M, W> {
     // One outcome more; what `below` has no place for counts 0.
     fn joined_on(&self, below: &[i64], so_far: i64, way: Outcome) -> i64
         ensures value { result ≡ (W.meaning self.now.weighing.now).join so_far way.weight
-            (row_worth below.now way.target) }
+            (stored_worth below.now way.target) }
         ensures held { Within result }
     {
         let worth = below.get(way.target as usize).copied().unwrap_or(0);
@@ -78,7 +78,7 @@ impl<M: Numbered, W: Weighing> Planner<'_, M, W> {
     // The worths of the outcomes joined in order.
     fn joined(&self, below: &[i64], outcomes: &Outcomes) -> i64
         ensures value { result ≡ joined (W.meaning self.now.weighing.now)
-            (row_worth below.now) (ways outcomes.now) }
+            (stored_worth below.now) (ways outcomes.now) }
         ensures held { Within result }
     {
         let mut so_far = self.weighing.first();
@@ -91,7 +91,7 @@ impl<M: Numbered, W: Weighing> Planner<'_, M, W> {
     // The lowest of the offered actions that reaches the largest value.
     fn best(&self, below: &[i64], state: u64) -> Option<Pick>
         ensures { result ≡ pick_at (W.meaning self.now.weighing.now)
-            (M.SiteModel.meaning self.now.model.now) (row_worth below.now) state }
+            (M.SiteModel.meaning self.now.model.now) (stored_worth below.now) state }
     {
         let mut best = None;
         for action in 0..self.model.actions() {

@@ -80,7 +80,8 @@ module _ (w : Weigh) (discount : ℕ → ℕ) (g : Model) (sh : Shown) (m : Mode
       (λ t has. nobody_earns law ρ admissible k (h ++ (t ∷ [])) (led_on t led has) (onward (ρ h) t hist offered has) (omega (arith, length_push h t))) in
       let most : joined w (worths k) (m.outcomes (code h) (ρ h)) ≤ℤ best.0.value = told.largest (ρ h) (inside (code h) (ρ h) here) here in
       let below : joined w (value_after h (earned_after w discount g sh.reward horizon ρ k)) (g.outcomes (final h) (ρ h)) ≤ℤ best.0.value = le_through _ _ _ (le_same _ _ _ later (sym (action_value k h hist (ρ h) offered))) most in
-      le_same _ _ _ (held_raises _ _ (add_raises (own_part w discount horizon (suc k) (sh.reward h)) (own_part w discount horizon (suc k) (sh.reward h)) _ _ (≤ℤ_refl (own_part w discount horizon (suc k) (sh.reward h))) below))
+      let own = own_part w discount horizon (suc k) (sh.reward h) in
+      le_same _ _ _ (held_raises _ _ (add_raises own own _ _ (≤ℤ_refl own) below))
       (ap (λ r. held (own_part w discount horizon (suc k) r +ℤ best.0.value)) (sym (u.rewards h hist)) ∙ ap (summed held (own_part w discount horizon (suc k) (m.reward (code h)))) (sym best.1))
 
 -- the plan is admissible, earns the worth of the start, and no admissible policy earns more

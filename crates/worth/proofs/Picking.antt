@@ -1,6 +1,7 @@
 -- What is picked among the offered actions: the lowest that reaches the largest value. For others: `pick_told`, the record `Picks`
 -- of any pick; `pick_some`, that there is a pick where an action is offered; `pick_same`, that only the values of offered actions count.
-use Rattle.std.proofs.Common.{◌≡◌, ℕ, zero, suc, ◌<◌, Bool, true, false, cond, ℤ, ◌≤ℤ◌, ◌<ℤ◌, Some, None, Option, sym, refl, ap, ◌∙◌, subst, ⊎_elim, arith}
+use Rattle.std.proofs.Common.{◌≡◌, ℕ, zero, suc, ◌<◌, Bool, true, false, ℤ, ◌≤ℤ◌, ◌<ℤ◌, Some, None, Option, sym, refl, ap, ◌∙◌, subst, ⊎_elim, arith}
+use Rattle.std.specs.Prelude.{if◌then◌else◌}
 use lib.Signed.{lt_z, ≤ℤ_refl}
 use Rattle.std.proofs.lemmas.Int.{ints}
 use Rattle.std.proofs.lemmas.Bool.{cases_lt, cond_both, both_ways}
@@ -86,8 +87,8 @@ pub pick_same : (offers : ℕ → Bool) (values others : ℕ → ℤ) → ((a : 
 pick_same offers values others same zero = refl
 pick_same offers values others same (suc n) =
     let before = pick_same offers values others same n in
-    let step : (b : Bool) → (b ≡ true → values n ≡ others n) → cond b (better (pick_below offers values n) n (values n)) (pick_below offers values n) ≡ cond b (better (pick_below offers others n) n (others n)) (pick_below offers others n) =
-    λ b. elim b as (λ b. (b ≡ true → values n ≡ others n) → cond b (better (pick_below offers values n) n (values n)) (pick_below offers values n) ≡ cond b (better (pick_below offers others n) n (others n)) (pick_below offers others n)) [
+    let step : (b : Bool) → (b ≡ true → values n ≡ others n) → (if b then better (pick_below offers values n) n (values n) else pick_below offers values n) ≡ (if b then better (pick_below offers others n) n (others n) else pick_below offers others n) =
+    λ b. elim b as (λ b. (b ≡ true → values n ≡ others n) → (if b then better (pick_below offers values n) n (values n) else pick_below offers values n) ≡ (if b then better (pick_below offers others n) n (others n) else pick_below offers others n)) [
       | true ↦ (λ s. (λ i. better (before i) n (s refl i)))
       | false ↦ (λ s. before)
     ] in
