@@ -25,7 +25,7 @@ use Rattle.std.proofs.lemmas.List.Elements.{Contains-append_right}
 use Rattle.std.proofs.lemmas.List.{length-map, get_or-map}
 use Rattle.std.proofs.lemmas.Simd.{map-map}
 use Rattle.words.proofs.Tests.{all_at}
-use Rattle.layer.proofs.Counting.{bits_same}
+use Rattle.layer.proofs.Places.{bits_of-same}
 use Rattle.layer.specs.Layered.{under, memory, is_layer_state, verdicts_at, lifted, layered}
 use Rattle.layer.specs.Records.{trace_of, end_of, truths, memory_at, code_over, shown_over, SoundBook}
 use Rattle.layer.specs.Sizes.{bits_below}
@@ -132,7 +132,7 @@ module _ (g : Model) (sh : Shown) (m : Model) (code : List ℕ → ℕ) (u : Unf
     sites = λ h hist. ap (λ b. cond b (m.site (under (s h hist))) 0) (state_is h hist) ∙ ap m.site (under_is h hist) ∙ u.sites h hist;
     masks = λ h hist.
         ap (λ b. cond b (m.mask (under (s h hist)) + 2 ^ m.labels * bits_of_wishes ws (verdicts_at m book (s h hist))) 0) (state_is h hist)
-        ∙ (λ i. (ap m.mask (under_is h hist) ∙ u.masks h hist) i + 2 ^ m.labels * bits_same (wish_held (verdicts_at m book (s h hist))) (wish_held (truths ns (trace_of sh.mask h) (end_of h))) ws (wishes_right h hist) i);
+        ∙ (λ i. (ap m.mask (under_is h hist) ∙ u.masks h hist) i + 2 ^ m.labels * bits_of-same (wish_held (verdicts_at m book (s h hist))) (wish_held (truths ns (trace_of sh.mask h) (end_of h))) ws (wishes_right h hist) i);
     rewards = λ h hist.
         ap (λ b. cond b (earned (m.reward (under (s h hist))) ws (verdicts_at m book (s h hist))) (pos 0)) (state_is h hist)
         ∙ ap (λ r. earned r ws (verdicts_at m book (s h hist))) (ap m.reward (under_is h hist) ∙ u.rewards h hist)

@@ -3,6 +3,7 @@
 use Rattle.std.proofs.Common.{◌≡◌, ℕ, zero, suc, ◌+◌, ◌<◌, Bool, true, false, not, ◌&&◌, ◌||◌, ltb, List, [], ◌∷◌, ◌++◌, map, length, get_or, sym, refl, ap, ◌∙◌, subst, inl, inr, append_assoc, arith, length-append}
 use Rattle.std.proofs.Math.Bool.{and-false, not-not}
 use Rattle.std.specs.List.{Contains}
+use Rattle.std.proofs.lemmas.List.Elements.{Contains-get_or}
 use Rattle.std.proofs.lemmas.List.{get_or_at, get_or_append_left, get_or_push, get_or-map, length_push}
 use Rattle.std.proofs.lemmas.Bool.{and_parts, ltb-true, cases_lt}
 use Rattle.formula.specs.declared.Item.{Item}
@@ -15,14 +16,14 @@ use Rattle.formula.specs.Resting.{operands, below, resting}
 use Rattle.formula.proofs.Chosen.{selected}
 use Rattle.formula.proofs.Marks.{exact}
 use Rattle.formula.proofs.Trees.{earlier_at, formulas_at, length-formulas}
-use Rattle.truth.specs.Truth.{Trace, before, holds}
+use Rattle.truth.specs.Truth.{Trace, labelled, before, holds}
 use Rattle.truth.proofs.Unfolding.{since_first, since_next, always_first, always_next, sometime_first, sometime_next}
 use Rattle.layer.specs.Verdicts.{node_of, recalled, verdict, verdicts_from, verdicts, item_held, memory_of}
 use Rattle.layer.specs.Records.{truths, memory_at, tells}
 use Rattle.wishbook.specs.Book.{Book, items_over}
 use Rattle.wishlayout.specs.declared.Wish.{Wish}
-use Rattle.layer.proofs.Counting.{bits_same}
-use Rattle.layer.proofs.Recalling.{item_recalls, recalled_empty}
+use Rattle.layer.proofs.Places.{no_bit, bits_of-bit, bits_of-same}
+use Rattle.layer.proofs.Recalling.{place, place_below, place_is, recalled_at}
 
 module _ (ns : List Node) (ws : List Wish) (ok : earlier ns ≡ true) (τ : Trace) where
   abbrev roots : List ℕ
@@ -157,17 +158,23 @@ module _ (ns : List Node) (ws : List Wish) (ok : earlier ns ≡ true) (τ : Trac
   from_node vs us (Held i) e = e
   from_node vs us (Failed i) e = ap not e
 
-  pub item_told : (n : ℕ) (x : Item) → Contains items x → item_held (truths ns τ n) x ≡ tells ns τ x n
+  item_told : (n : ℕ) (x : Item) → Contains items x → item_held (truths ns τ n) x ≡ tells ns τ x n
   item_told n (Held i) has = told_at n i (item_used (Held i) has).0
   item_told n (Failed i) has = ap not (told_at n i (item_used (Failed i) has).0)
 
-  -- it tells the truth of one position earlier, and nothing at the start
+  -- each bit of the memory tells of its item at the position before, and is 0 at the start
+  pub memory_bit : (n k : ℕ) → k < length items → labelled (memory_at book τ n) k ≡ before n (tells ns τ (get_or items k (Held 0)))
+  memory_bit zero k l = no_bit k
+  memory_bit (suc n) k l = bits_of-bit (item_held (truths ns τ n)) items k (Held 0) l ∙ item_told n (get_or items k (Held 0)) (Contains-get_or items k (Held 0) l)
+
   pub recalls_at : (n : ℕ) → Recalls n (recalled items (memory_at book τ n))
-  recalls_at zero x has = recalled_empty items x
-  recalls_at (suc n) x has = item_recalls (truths ns τ n) items x has ∙ item_told n x has
+  recalls_at n x has =
+      recalled_at items x has (memory_at book τ n)
+      ∙ memory_bit n (place items x has) (place_below items x has)
+      ∙ ap (λ y. before n (tells ns τ y)) (place_is items x has (Held 0))
 
   -- the memory worked out from right verdicts at position n is the next one
   pub memory_next : (n : ℕ) (vs : List Bool) → length vs ≡ length ns → Right n vs → memory_of items vs ≡ memory_at book τ (suc n)
   memory_next n vs long right =
-      bits_same (item_held vs) (item_held (truths ns τ n)) items
+      bits_of-same (item_held vs) (item_held (truths ns τ n)) items
       (λ x has. let used = item_used x has in from_node vs (truths ns τ n) x (right (node_of x) (omega (arith, used.0)) used.1 ∙ sym (told_at n (node_of x) used.0)))

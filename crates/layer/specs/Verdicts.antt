@@ -1,6 +1,8 @@
 -- How a layer judges a state: from the label mask below and the remembered bits, the truth of each node in rising order; and what
 -- it remembers on leaving. A bit tells whether the node of its item held, or failed, one position earlier; at the start all are 0.
-use Rattle.std.specs.Prelude.{ℕ, ◌+◌, ◌*◌, ◌/◌, ◌%◌, Bool, true, false, cond, not, ◌&&◌, ◌||◌, List, [], ◌∷◌, ◌++◌, length, ℤ, ◌+ℤ◌, ◌==◌, slice_index_or}
+use Rattle.std.specs.Prelude.{ℕ, ◌+◌, ◌*◌, Bool, true, false, if◌then◌else◌, not, ◌&&◌, ◌||◌, List, [], ◌∷◌, ◌++◌, length, ℤ, ◌+ℤ◌, ◌==◌, slice_index_or}
+use Rattle.std.specs.List.{position}
+use Rattle.std.specs.Option.{option_map_or}
 use Rattle.formula.specs.declared.Node.{Node}
 use Rattle.formula.specs.declared.Node.TheVariants.{Label, True, Not, And, Or, Previous, Since, Always, Once}
 use Rattle.formula.specs.declared.Item.{Item}
@@ -16,14 +18,12 @@ node_of (Failed i) = i
 
 abbrev pub same_item : Item → Item → Bool
 same_item (Held i) (Held j) = i == j
-same_item (Held i) (Failed j) = false
-same_item (Failed i) (Held j) = false
 same_item (Failed i) (Failed j) = i == j
+same_item _ _ = false
 
--- the items whose bits a memory has set; the first item has the lowest bit
+-- what a memory recalls of an item: the bit at its place among the items; false where it has none
 abbrev pub recalled : List Item → ℕ → Item → Bool
-recalled [] memory x = false
-recalled (y ∷ items) memory x = (same_item x y && memory % 2 == 1) || recalled items (memory / 2) x
+recalled items memory x = option_map_or (labelled memory) (position (same_item x) items) false
 
 -- the verdict on node i, from the items that r recalls and the verdicts on the nodes before it
 abbrev pub verdict : ℕ → (Item → Bool) → ℕ → List Bool → Node → Bool
@@ -49,7 +49,7 @@ abbrev pub bit : Bool → ℕ
 bit true = 1
 bit false = 0
 
--- a number from bits, one for each x: the first is the lowest
+-- a number from bits, one for each x: the bit of the first is the lowest
 abbrev pub bits_of : {X : Type 0} → (X → Bool) → List X → ℕ
 bits_of holds [] = 0
 bits_of holds (x ∷ xs) = bit (holds x) + 2 * bits_of holds xs
@@ -74,4 +74,4 @@ bits_of_wishes ws vs = bits_of (wish_held vs) ws
 -- the amounts of the wishes that hold, after what was earned before
 abbrev pub earned : ℤ → List Wish → List Bool → ℤ
 earned sum [] vs = sum
-earned sum (w ∷ ws) vs = earned (cond (wish_held vs w) (sum +ℤ amount w) sum) ws vs
+earned sum (w ∷ ws) vs = earned (if wish_held vs w then sum +ℤ amount w else sum) ws vs

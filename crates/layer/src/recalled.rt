@@ -1,13 +1,14 @@
-// What a memory recalls of the nodes: the items of a book, each with its bit.
-ghost use Rattle.std.specs.Prelude.{◌≡◌, ◌/◌, ◌%◌, ◌^◌, ◌==◌};
-ghost use Rattle.layer.specs.Verdicts.{recalled};
+// What a memory recalls: each item of a book has its bit.
+ghost use Rattle.std.specs.Prelude.{◌≡◌};
+ghost use Rattle.layer.specs.InMemory.{recalled_by};
+ghost use Rattle.truth.specs.Truth.{labelled};
 
 use formula::Item;
 
 // Whether a bit of a memory is set, the lowest being bit 0. Bits past the 64th are none.
-#[tactic(auto, using(crate::proofs::Recalling::no_bit))]
+#[tactic(auto, using(crate::proofs::Recalling::no_bit_past))]
 fn is_set(memory: u64, bit: usize) -> bool
-    ensures { result ≡ (memory / 2 ^ bit % 2 == 1) }
+    ensures { result ≡ labelled memory bit }
 {
     bit < 64 && (memory >> bit) % 2 == 1
 }
@@ -20,13 +21,13 @@ pub(crate) struct Recalled<'a> {
 }
 
 impl Recalled<'_> {
-    // Whether it recalls an item: a bit of that item is set.
+    // Whether it recalls an item: the bit at the item's place is set.
     pub(crate) fn tells(&self, item: Item) -> bool
-        ensures { result ≡ recalled self.now.items.now self.now.memory item }
+        ensures { result ≡ recalled_by self.now item }
     {
-        self.items
-            .iter()
-            .enumerate()
-            .any(|(i, own)| *own == item && is_set(self.memory, i))
+        let Some(place) = self.items.iter().position(|own| *own == item) else {
+            return false;
+        };
+        is_set(self.memory, place)
     }
 }

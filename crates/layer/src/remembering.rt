@@ -17,24 +17,27 @@ fn item_holds(item: Item, truths: &[bool]) -> bool
     }
 }
 
-// Bits with one more below them.
-fn with_bit(bits: u64, low: bool) -> u64
-    requires { bits < 2 ^ 32 }
-    ensures { result ≡ bit_of low + 2 * bits }
+// Bits with one more above them.
+fn with_bit(bits: u64, place: usize, set: bool) -> u64
+    requires within { place < 32 }
+    requires below { bits < 2 ^ place }
+    ensures value { result ≡ bits + 2 ^ place * bit_of set }
+    ensures small { result < 2 ^ (place + 1) }
 {
-    2 * bits + u64::from(low)
+    bits + (u64::from(set) << place)
 }
 
-// A number from bits, one for each item; the first is the lowest.
+// A number from bits, one for each item; the bit of the first is the lowest.
 fn number<T: Copy, F: Fn(T) -> bool>(items: &[T], holds: F) -> u64
     requires callable { F.IsAlwaysCallable holds }
     requires few { length items.now ≤ 32 }
-    ensures value { (p : T → Bool) → ((x : T) (r : Bool) → F.post holds x r → r ≡ p x) → result ≡ bits_of p items.now }
+    ensures value { (p : T → Bool) → ((x : T) (r : Bool) → F.post holds x r → r ≡ p x)
+        → result ≡ bits_of p items.now }
     ensures small { result < 2 ^ length items.now }
 {
     let mut bits = 0;
-    for item in items.iter().rev() {
-        bits = with_bit(bits, holds(*item));
+    for (place, item) in items.iter().enumerate() {
+        bits = with_bit(bits, place, holds(*item));
     }
     bits
 }

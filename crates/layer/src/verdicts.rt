@@ -1,7 +1,9 @@
 // The verdicts on the nodes of a book in a state: from the label mask and what is recalled, the truth of each in rising order.
 ghost use Rattle.std.specs.Prelude.{◌≡◌, ◌<◌, ◌≤◌, false, length, take, slice_index_or};
 ghost use Rattle.wishbook.specs.Contents.{contents};
-ghost use Rattle.layer.specs.Verdicts.{recalled as recalled_in, verdict as verdict_of, verdicts};
+ghost use Rattle.layer.specs.Verdicts.{verdict as verdict_of, verdicts};
+ghost use Rattle.layer.specs.InMemory.{recalled_by};
+ghost use Rattle.layer.specs.Layered.{verdicts_in};
 
 use crate::recalled::Recalled;
 use formula::{Item, Node};
@@ -18,7 +20,8 @@ pub(crate) fn at(table: &[bool], node: u8) -> bool
 // The truth of the next node, after the nodes before it.
 fn verdict(node: Node, mask: u32, recalled: &Recalled<'_>, before: &[bool]) -> bool
     requires { length before.now < 128 }
-    ensures { result ≡ verdict_of mask (recalled_in recalled.now.items.now recalled.now.memory) (length before.now) before.now node }
+    ensures { result ≡
+        verdict_of mask (recalled_by recalled.now) (length before.now) before.now node }
 {
     let here = before.len() as u8;
     match node {
@@ -37,7 +40,7 @@ fn verdict(node: Node, mask: u32, recalled: &Recalled<'_>, before: &[bool]) -> b
 // The truth of each of at most 128 nodes. That it is a table filled in rising order is fixed (docs/DECISIONS.md).
 fn truths(nodes: &[Node], mask: u32, recalled: &Recalled<'_>) -> [bool; 128]
     requires { length nodes.now ≤ 128 }
-    ensures { take (length nodes.now) result ≡ verdicts mask (recalled_in recalled.now.items.now recalled.now.memory) nodes.now }
+    ensures { take (length nodes.now) result ≡ verdicts mask (recalled_by recalled.now) nodes.now }
 {
     let mut known = [false; 128];
     for (i, node) in nodes.iter().enumerate() {
@@ -48,7 +51,8 @@ fn truths(nodes: &[Node], mask: u32, recalled: &Recalled<'_>) -> [bool; 128]
 
 // The truth of each node of a book in a state, from the label mask and the remembered bits.
 pub fn judge(book: &WishBook, mask: u32, memory: u64) -> [bool; 128]
-    ensures { take (length (contents book.now).nodes) result ≡ verdicts mask (recalled_in (contents book.now).items memory) (contents book.now).nodes }
+    ensures { take (length (contents book.now).nodes) result ≡
+        verdicts_in (contents book.now) mask memory }
 {
     let items = book.items();
     truths(book.nodes(), mask, &Recalled { items, memory })

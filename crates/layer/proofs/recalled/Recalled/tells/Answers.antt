@@ -1,14 +1,20 @@
-use Rattle.std.proofs.Common.{ap, ◌∙◌, div-one, rules, tests}
+use Rattle.std.proofs.Common.{false, sym, ap, ◌∙◌, rules, tests}
+use Rattle.std.specs.Option.{option_map_or}
 use Rattle.std.proofs.lemmas.Iterator.{YieldsList-from_slice}
-use Rattle.std.proofs.lemmas.Iterator.Consumers.{YieldsList-from_enumerate}
-use Rattle.std.proofs.lemmas.Iterator.Search.{any_from_yields_List}
-use Rattle.layer.specs.Verdicts.{recalled}
-use Rattle.layer.proofs.Recalling.{set_there, recalled_by_place}
+use Rattle.std.proofs.lemmas.Iterator.Search.{position_from_yields_List}
+use Rattle.truth.specs.Truth.{labelled}
+use Rattle.layer.specs.Verdicts.{same_item}
 use Rattle.layer.proofs.recalled.Recalled.tells.Goals as goal
+
+pub returns-in_default : goal.returns-in_default
+returns-in_default c =
+    let own = c.args.self.now in
+    ap (λ o. option_map_or (labelled own.memory) o false)
+    (sym c.in_default.is ∙ position_from_yields_List (same_item c.args.item) _ _ c.position.result c.position.ensures.ran (YieldsList-from_slice own.items.now (cc)) (λ x b q k. search (rules, tests)))
 
 pub returns : goal.returns
 returns c =
     let own = c.args.self.now in
-    any_from_yields_List (set_there c.args.item own.memory) _ _ _ c.any.ensures.ran (YieldsList-from_enumerate (YieldsList-from_slice own.items.now (cc)) (cc)) (λ x b q k. search (rules, tests))
-    ∙ recalled_by_place own.items.now own.memory 0 c.args.item
-    ∙ ap (λ m. recalled own.items.now m c.args.item) (div-one own.memory)
+    c.is_set.ensures
+    ∙ ap (λ o. option_map_or (labelled own.memory) o false)
+    (sym c.in-Some.is ∙ position_from_yields_List (same_item c.args.item) _ _ c.position.result c.position.ensures.ran (YieldsList-from_slice own.items.now (cc)) (λ x b q k. search (rules, tests)))
