@@ -33,7 +33,7 @@ picked_within w law m f s o is =
 pub picked_small : (w : Weigh) (m : Model) → Lawful m → (f : ℕ → ℤ) (s : ℕ) (o : Option Pick) → o ≡ pick_at w m f s → action_of o < 8
 picked_small w m law f s o is =
     let told = λ (p : Pick) (e : pick_at w m f s ≡ Some p). (pick_offered (m.offered s) (λ a. joined w f (m.outcomes s a)) m.actions p e).0 in
-    let each : (q : Option Pick) → q ≡ pick_at w m f s → action_of q < 8 = λ q. elim q as (λ q. q ≡ pick_at w m f s → action_of q < 8) [ None ↦ (λ e. omega arith) | Some p ↦ (λ e. omega (arith, told p (sym e), law.acts.1)) ] in
+    let each : (q : Option Pick) → q ≡ pick_at w m f s → action_of q < 8 = λ q. elim q as (λ q. q ≡ pick_at w m f s → action_of q < 8) [ None ↦ (λ e. omega arith) | Some p ↦ (λ e. omega (arith, told p (sym e), law.moves.acts.1)) ] in
     each o is
 
 -- one action more: it is offered and taken where its value is larger, or it is not offered
@@ -71,7 +71,7 @@ module _ (w : Weigh) (m : Model) (law : Lawful m) (num : NumberedBy m) (horizon 
   picks_same : (f h : ℕ → ℤ) (s : ℕ) → ((t : ℕ) → t < m.span → f t ≡ h t) → pick_at w m f s ≡ pick_at w m h s
   picks_same f h s same =
       pick_same (m.offered s) (λ a. joined w f (m.outcomes s a)) (λ a. joined w h (m.outcomes s a))
-      (λ a off. joined_same w f h w.first w.first (m.outcomes s a) refl (λ t has. same t (law.within t (target_state m law s a t has))))
+      (λ a off. joined_same w f h w.first w.first (m.outcomes s a) refl (λ t has. same t (law.states.within t (target_state m law s a t has))))
       m.actions
 
   -- with j + 1 slots left, where f says what the row below holds
@@ -88,7 +88,7 @@ module _ (w : Weigh) (m : Model) (law : Lawful m) (num : NumberedBy m) (horizon 
     entry_choice : choice_at w m horizon (p - m.span) ≡ action_of o
     entry_choice =
         let r = p % m.span in
-        let some : 0 < m.span = omega (arith, law.within m.start law.starts) in
+        let some : 0 < m.span = omega (arith, law.states.within m.start law.states.starts) in
         let inside : r < m.span = mod-lt p some in
         let whole : m.span * (p / m.span) + r ≡ p = div-add-mod p m.span in
         let rows : m.span * (p / m.span) ≡ j * m.span + m.span = ap (λ k. m.span * k) left ∙ mul-suc m.span j ∙ ap (λ k. k + m.span) (mul_comm m.span j) in

@@ -1,5 +1,5 @@
 // Reading a rule book: one word after another, into a table of at most eight actions of at most eight outcomes.
-ghost use Rattle.std.specs.Prelude.{◌≡◌, ◌<◌, true, ◌&&◌, [], ◌∷◌, ◌++◌, length, ◌==◌};
+ghost use Rattle.std.specs.Prelude.{◌≡◌, ◌<◌, IsTrue, ◌&&◌, [], ◌∷◌, ◌++◌, length, ◌==◌};
 ghost use Rattle.bounded.specs.Listed.{listed};
 ghost use Rattle.words.specs.Format.{Faithful, reading};
 ghost use Rattle.words.specs.Refusing.{RefusesRightly};
@@ -153,7 +153,7 @@ impl Draft for Reading {
 #[tactic(auto, using(rulelayout::proofs::Faithful::rule_faithful, rulelayout::proofs::Refusing::rule_refuses))]
 pub fn read_rule(bytes: &[u8]) -> Result<RuleBook, Fault>
     ensures reads { reading rule_format bytes.now ≡ verdict_from result }
-    ensures faithful { Faithful rule_format (λ b. valid b ≡ true) rule_words }
+    ensures faithful { Faithful rule_format (λ b. IsTrue (valid b)) rule_words }
     ensures refuses { RefusesRightly rule_format Good written may_end passes closes }
 {
     read::<Reading>(bytes)

@@ -1,6 +1,6 @@
 -- The files that are read are just the encodings of valid rule books: `rule_faithful`. For a reader: every draft that reading
 -- comes to is good (`good_steps`), and a good draft that ends well is a valid book (`good_valid`).
-use Rattle.std.proofs.Common.{◌≡◌, ℕ, ◌+◌, ◌*◌, ◌^◌, ◌<◌, ◌≤◌, Bool, true, false, cond, ◌&&◌, eqb, ltb, List, [], ◌∷◌, ◌++◌, length, Ok, Err, Result, sym, refl, ap, ◌∙◌, subst, inl, inr, arith, lit<}
+use Rattle.std.proofs.Common.{◌≡◌, ℕ, ◌+◌, ◌*◌, ◌^◌, ◌<◌, ◌≤◌, IsTrue, Bool, true, false, cond, ◌&&◌, eqb, ltb, List, [], ◌∷◌, ◌++◌, length, Ok, Err, Result, sym, refl, ap, ◌∙◌, subst, inl, inr, arith, lit<}
 use Rattle.std.proofs.lemmas.Bool.{and_parts, and_from, eqb-true, eq-eqb, ltb-true, ltb-false, lt-ltb, le-ltb, cases_Bool, cond-true, cond-false}
 use Rattle.std.proofs.lemmas.List.{append-nil, append_assoc, flat_map_more, length_push, length-append, length-map, map_push}
 use Rattle.refusal.specs.declared.Refusal.{Refusal}
@@ -253,7 +253,7 @@ pub head_step : (h : RuleHead) → good_head h.switches h.actions h.start ≡ tr
 unfolding read_word
 head_step h good = (ap (λ x. onto x (λ h. more (listing h []))) (head_back h.switches h.actions h.start good), head_low h.switches h.actions h.start good)
 
-reads_back : ReadsBack rule_format (λ b. valid b ≡ true) rule_words
+reads_back : ReadsBack rule_format (λ b. IsTrue (valid b)) rule_words
 unfolding read_word whole_rule
 reads_back b good =
     let one = and_parts (good_head b.switches (length b.acts) b.start) (all (good_act b.switches) b.acts && waits b.acts) good in
@@ -268,9 +268,9 @@ reads_back b good =
     (require_passed (waits b.acts) NoWait (Ok (rule_of h b.acts)) two.1)
 
 -- the three laws of the format
-pub rule_faithful : Faithful rule_format (λ b. valid b ≡ true) rule_words
+pub rule_faithful : Faithful rule_format (λ b. IsTrue (valid b)) rule_words
 rule_faithful = record {
   places = places_right rule_format;
   back = reads_back;
-  only = only_encodings rule_format (λ b. valid b ≡ true) rule_words Good written (λ s t w low. steps s t w) (λ s w low. ends_well s w) finishes tt refl;
+  only = only_encodings rule_format (λ b. IsTrue (valid b)) rule_words Good written (λ s t w low. steps s t w) (λ s w low. ends_well s w) finishes tt refl;
 }

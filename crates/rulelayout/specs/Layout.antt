@@ -1,6 +1,6 @@
 -- How a rule book is written in words, and how it is read: head, each action in order with its outcomes right after it, and
 -- the end word. The tests of one word stand first, and the order of the words after them.
-use Rattle.std.specs.Prelude.{◌≡◌, ℕ, ◌+◌, ◌*◌, ◌^◌, ◌<◌, true, cond, List, [], ◌∷◌, ◌++◌, map, flat_map, length, Ok, Err, Result, ◌==◌, bit_and, nat_lt}
+use Rattle.std.specs.Prelude.{◌≡◌, ℕ, ◌+◌, ◌*◌, ◌^◌, ◌<◌, List, [], ◌∷◌, ◌++◌, map, flat_map, length, Ok, Err, Result, ◌==◌, bit_and, nat_lt, if◌then◌else◌, IsTrue}
 use Rattle.std.specs.Coded.{Unit-prop}
 use Rattle.std.proofs.Props.{props}
 use Rattle.refusal.specs.declared.Refusal.{Refusal}
@@ -69,7 +69,7 @@ pub data Draft : Type 0 where
 
 -- with these actions read
 abbrev pub listed : RuleHead → List Act → Draft
-listed h acts = cond (nat_lt (length acts) h.actions) (listing h acts) (whole h acts)
+listed h acts = if nat_lt (length acts) h.actions then listing h acts else whole h acts
 
 abbrev pub act_of : Masks → List Effect → Act
 act_of m es = record { on = m.first; off = m.second; effects = es }
@@ -80,8 +80,8 @@ effect_of m = record { set = m.first; clear = m.second; weight = m.count }
 -- with these outcomes of the last action read
 abbrev pub filled : RuleHead → List Act → Masks → List Effect → Step Draft
 filled h acts m es =
-    cond (nat_lt (length es) m.count) (more (inside h acts m es))
-    (check (total es == 8) WrongTotal (more (listed h (acts ++ (act_of m es ∷ [])))))
+    if nat_lt (length es) m.count then more (inside h acts m es)
+    else check (total es == 8) WrongTotal (more (listed h (acts ++ (act_of m es ∷ []))))
 
 unfoldable pub read_word : Draft → ℕ → Step Draft
 read_word blank w = onto (head_of w) (λ h. more (listing h []))
@@ -94,10 +94,8 @@ rule_of h acts = record { switches = h.switches; start = h.start; acts = acts }
 
 -- at the end: action 0 has no needs
 unfoldable pub whole_rule : Draft → Result Rule Refusal
-whole_rule blank = Err NoWait
-whole_rule (listing h acts) = Err NoWait
-whole_rule (inside h acts m es) = Err NoWait
 whole_rule (whole h acts) = require (waits acts) NoWait (Ok (rule_of h acts))
+whole_rule d = Err NoWait
 
 abbrev pub rule_format : Format Draft Rule
 rule_format = record { start = blank; step = read_word; finish = whole_rule }
@@ -114,15 +112,15 @@ written (whole h acts) = word_of_head h.switches h.actions h.start ∷ act_words
 -- what is known of a draft: the head, the actions and the outcomes that it has are good ones, and there is room for what is due
 
 abbrev pub Begun : RuleHead → List Act → Type 0
-Begun h acts = (good_head h.switches h.actions h.start ≡ true) × (all (good_act h.switches) acts ≡ true)
+Begun h acts = IsTrue (good_head h.switches h.actions h.start) × IsTrue (all (good_act h.switches) acts)
 
 abbrev pub Good : Draft → Type 0
 Good blank = Unit {0}
 Good (listing h acts) = Begun h acts × (length acts < h.actions)
 Good (inside h acts m es) =
     Begun h acts × (length acts < h.actions)
-    × (fits h.switches m.first m.second m.count ≡ true)
-    × (all (good_effect h.switches) es ≡ true)
+    × IsTrue (fits h.switches m.first m.second m.count)
+    × IsTrue (all (good_effect h.switches) es)
     × (length es < m.count)
 Good (whole h acts) = Begun h acts × (length acts ≡ h.actions)
 

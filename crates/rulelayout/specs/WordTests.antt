@@ -1,6 +1,6 @@
 -- What a word has to be that comes after a draft, each test by itself; and what the whole has to be at its end word. A test that cannot be
 -- asked of a word, since it fails an earlier one, says nothing there. In which order they are asked is told by `word_tests`.
-use Rattle.std.specs.Prelude.{ℕ, ◌+◌, Bool, true, false, cond, ◌||◌, ◌-◌, [], ◌∷◌, ◌++◌, length, ◌==◌, bit_and, nat_lt}
+use Rattle.std.specs.Prelude.{ℕ, ◌+◌, Bool, true, false, ◌||◌, ◌-◌, [], ◌∷◌, ◌++◌, length, ◌==◌, bit_and, nat_lt, if◌then◌else◌}
 use Rattle.refusal.specs.declared.Refusal.{Refusal}
 use Rattle.refusal.specs.declared.Refusal.TheVariants.{WrongKind, UnusedBit, OutOfRange, WrongTotal, NoWait, SwitchTwice}
 use Rattle.words.specs.Words.{field, kind}
@@ -31,7 +31,7 @@ kind_may_come d w = kind w == due_kind d
 
 -- how many of its lowest bits have a field, by a word's kind: a head, an action or an outcome; an end word uses all
 abbrev pub width_of : ℕ → ℕ
-width_of k = cond (k == 6) 18 (cond (k == 7 || k == 8) 24 28)
+width_of k = if k == 6 then 18 else if k == 7 || k == 8 then 24 else 28
 
 -- UnusedBit: the bits that no field of the word's kind has are 0
 abbrev pub unused_clear : ℕ → Bool
@@ -52,10 +52,9 @@ apart m = bit_and m.first m.second == 0
 
 -- SwitchTwice: no switch stands in both masks of an action or of an outcome
 abbrev pub once : Draft → ℕ → Bool
-once blank w = true
 once (listing h acts) w = apart (masks_in w)
 once (inside h acts m es) w = apart (masks_in w)
-once (whole h acts) w = true
+once d w = true
 
 -- WrongTotal: more outcomes of the action are due after this one, or with it the weights total 8
 abbrev pub totals : Draft → ℕ → Bool

@@ -132,61 +132,69 @@ wait_offered b v s e =
 
 pub rule_lawful : (b : Rule) → valid b ≡ true → Lawful (rule_model b)
 rule_lawful b v = record {
-  starts = start_state b v;
-  within = λ s e. ltb-true s (2 ^ b.switches) e;
-  acts = actions_few b v;
-  offers =
-      λ s a o.
-      let parts = and_parts (is_switch_mask b s) _ o in
-      (parts.0, ltb-true a (length b.acts) (and_parts (ltb a (length b.acts)) _ parts.1).0);
-  waits = wait_offered b v;
-  some =
-      λ s a o.
-      subst (λ (os : List Outcome). 1 ≤ length os) (sym (cond-true (offers b s a) (landings s (act_at b a).effects) [] o))
-      (some_landings s (act_at b a).effects (offered_parts b v s a o).some);
-  few =
-      λ s a.
-      outcomes_both b s a (λ (os : List Outcome). length os ≤ 8)
-      (λ o. omega (arith, (length-onto s [] (act_at b a).effects).1, (offered_parts b v s a o).few))
-      (omega arith);
-  targets =
-      λ s a j d.
-      outcomes_both b s a (λ (os : List Outcome). j < length os → is_switch_mask b (get_or os j d).target ≡ true)
-      (λ o h.
-      all_at (λ (w : Outcome). ltb w.target (2 ^ b.switches)) (landings s (act_at b a).effects) j d
-      (targets_within b.switches s (act_at b a).effects (offered_state b s a o) (offered_parts b v s a o).each)
-      h)
-      (λ h. absurd (omega arith));
-  apart =
-      λ s a j k d.
-      outcomes_both b s a
-      (λ (os : List Outcome). j < length os → k < length os → (get_or os j d).target ≡ (get_or os k d).target → j ≡ k)
-      (λ o. targets_apart s (act_at b a).effects j k d)
-      (λ h. absurd (omega arith));
-  weighed =
-      λ s a j d.
-      outcomes_both b s a (λ (os : List Outcome). j < length os → 1 ≤ (get_or os j d).weight)
-      (λ o h.
-      leb-true 1 _
-      (all_at (λ (w : Outcome). leb 1 w.weight) (landings s (act_at b a).effects) j d
-      (weights_some b.switches s (act_at b a).effects (offered_parts b v s a o).each)
-      h))
-      (λ h. absurd (omega arith));
-  whole =
-      λ s a o.
-      ap weights (cond-true (offers b s a) (landings s (act_at b a).effects) [] o)
-      ∙ total_onto s [] (act_at b a).effects
-      ∙ zero-add (total (act_at b a).effects)
-      ∙ (offered_parts b v s a o).whole;
-  labelled = below_all b;
-  narrow = omega (arith, (switches_few b v).1);
-  bounded = λ s. omega arith;
-  modest = omega arith;
-  grounded = λ s. omega (arith, below_all b s, states_few b v);
-  no_mask = λ s e. cond-false (is_switch_mask b s) s 0 e;
-  no_reward = λ s e. refl;
-  no_ground = λ s e. cond-false (is_switch_mask b s) s 0 e;
-  silent = λ s a o. cond-false (offers b s a) (landings s (act_at b a).effects) [] o;
+  states = record {
+    starts = start_state b v;
+    within = λ s e. ltb-true s (2 ^ b.switches) e;
+  };
+  moves = record {
+    acts = actions_few b v;
+    offers =
+        λ s a o.
+        let parts = and_parts (is_switch_mask b s) _ o in
+        (parts.0, ltb-true a (length b.acts) (and_parts (ltb a (length b.acts)) _ parts.1).0);
+    waits = wait_offered b v;
+    some =
+        λ s a o.
+        subst (λ (os : List Outcome). 1 ≤ length os) (sym (cond-true (offers b s a) (landings s (act_at b a).effects) [] o))
+        (some_landings s (act_at b a).effects (offered_parts b v s a o).some);
+    few =
+        λ s a.
+        outcomes_both b s a (λ (os : List Outcome). length os ≤ 8)
+        (λ o. omega (arith, (length-onto s [] (act_at b a).effects).1, (offered_parts b v s a o).few))
+        (omega arith);
+    targets =
+        λ s a j d.
+        outcomes_both b s a (λ (os : List Outcome). j < length os → is_switch_mask b (get_or os j d).target ≡ true)
+        (λ o h.
+        all_at (λ (w : Outcome). ltb w.target (2 ^ b.switches)) (landings s (act_at b a).effects) j d
+        (targets_within b.switches s (act_at b a).effects (offered_state b s a o) (offered_parts b v s a o).each)
+        h)
+        (λ h. absurd (omega arith));
+    apart =
+        λ s a j k d.
+        outcomes_both b s a
+        (λ (os : List Outcome). j < length os → k < length os → (get_or os j d).target ≡ (get_or os k d).target → j ≡ k)
+        (λ o. targets_apart s (act_at b a).effects j k d)
+        (λ h. absurd (omega arith));
+    weighed =
+        λ s a j d.
+        outcomes_both b s a (λ (os : List Outcome). j < length os → 1 ≤ (get_or os j d).weight)
+        (λ o h.
+        leb-true 1 _
+        (all_at (λ (w : Outcome). leb 1 w.weight) (landings s (act_at b a).effects) j d
+        (weights_some b.switches s (act_at b a).effects (offered_parts b v s a o).each)
+        h))
+        (λ h. absurd (omega arith));
+    whole =
+        λ s a o.
+        ap weights (cond-true (offers b s a) (landings s (act_at b a).effects) [] o)
+        ∙ total_onto s [] (act_at b a).effects
+        ∙ zero-add (total (act_at b a).effects)
+        ∙ (offered_parts b v s a o).whole;
+    silent = λ s a o. cond-false (offers b s a) (landings s (act_at b a).effects) [] o;
+  };
+  shows = record {
+    labelled = below_all b;
+    narrow = omega (arith, (switches_few b v).1);
+    bounded = λ s. omega arith;
+    modest = omega arith;
+    no_mask = λ s e. cond-false (is_switch_mask b s) s 0 e;
+    no_reward = λ s e. refl;
+  };
+  grounds = record {
+    grounded = λ s. omega (arith, below_all b s, states_few b v);
+    no_ground = λ s e. cond-false (is_switch_mask b s) s 0 e;
+  };
 }
 
 pub rule_ground : (b : Rule) → valid b ≡ true → Ground (rule_model b)

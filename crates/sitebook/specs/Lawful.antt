@@ -126,28 +126,30 @@ module _ (b : Site) (v : valid b ≡ true) where
 
   pub site_lawful : Lawful (site_model b)
   site_lawful = record {
-    starts = lt-ltb 0 (length b.marks) p.some;
-    within = λ s e. ltb-true s (length b.marks) e;
-    acts = (p.acts, p.few);
-    offers = offers_law;
-    waits = waits_law;
-    some = λ s a e. omega (arith, some_length (cell_at b s a) e, length-map (cell_at b s a) outcome_of);
-    few = λ s a. omega (arith, (cell s a).few, length-map (cell_at b s a) outcome_of);
-    targets = λ s a j d h. ap (λ (o : Outcome). ltb o.target (length b.marks)) (at_outcome s a j d h) ∙ lt-ltb _ _ (move_is_good s a j h).0;
-    apart = λ s a j k d hj hk e.
-        apart_at (cell_at b s a) j k stay (cell s a).distinct (within_outcomes s a j hj) (within_outcomes s a k hk)
-        (sym (ap (λ (o : Outcome). o.target) (at_outcome s a j d hj)) ∙ e ∙ ap (λ (o : Outcome). o.target) (at_outcome s a k d hk));
-    weighed = λ s a j d h. omega (arith, ap (λ (o : Outcome). o.weight) (at_outcome s a j d h), (move_is_good s a j h).1);
-    whole = λ s a e. total_outcomes (cell_at b s a) ∙ (cell s a).whole (not-true (none (cell_at b s a)) e);
-    labelled = labelled_law;
-    narrow = p.labels;
-    bounded = λ s. omega (arith, reward_size (mark_at b s).worth.raised, bound_at b.marks s);
-    modest = bound_modest b.labels b.marks p.marks;
-    grounded = grounded_law;
-    no_mask = λ s e. ap (λ (m : Mark). m.mask) (get_or_past b.marks s blank (ltb-false s (length b.marks) e));
-    no_reward = λ s e. ap (λ (m : Mark). pos m.worth.raised -ℤ pos 2000) (get_or_past b.marks s blank (ltb-false s (length b.marks) e));
-    no_ground = λ s e. cond-false _ s 0 e;
-    silent = λ s a e. none_nil (cell_at b s a) (not-false (none (cell_at b s a)) e);
+    states = record { starts = lt-ltb 0 (length b.marks) p.some; within = λ s e. ltb-true s (length b.marks) e };
+    moves = record {
+      acts = (p.acts, p.few);
+      offers = offers_law;
+      waits = waits_law;
+      some = λ s a e. omega (arith, some_length (cell_at b s a) e, length-map (cell_at b s a) outcome_of);
+      few = λ s a. omega (arith, (cell s a).few, length-map (cell_at b s a) outcome_of);
+      targets = λ s a j d h. ap (λ (o : Outcome). ltb o.target (length b.marks)) (at_outcome s a j d h) ∙ lt-ltb _ _ (move_is_good s a j h).0;
+      apart = λ s a j k d hj hk e.
+          apart_at (cell_at b s a) j k stay (cell s a).distinct (within_outcomes s a j hj) (within_outcomes s a k hk)
+          (sym (ap (λ (o : Outcome). o.target) (at_outcome s a j d hj)) ∙ e ∙ ap (λ (o : Outcome). o.target) (at_outcome s a k d hk));
+      weighed = λ s a j d h. omega (arith, ap (λ (o : Outcome). o.weight) (at_outcome s a j d h), (move_is_good s a j h).1);
+      whole = λ s a e. total_outcomes (cell_at b s a) ∙ (cell s a).whole (not-true (none (cell_at b s a)) e);
+      silent = λ s a e. none_nil (cell_at b s a) (not-false (none (cell_at b s a)) e);
+    };
+    shows = record {
+      labelled = labelled_law;
+      narrow = p.labels;
+      bounded = λ s. omega (arith, reward_size (mark_at b s).worth.raised, bound_at b.marks s);
+      modest = bound_modest b.labels b.marks p.marks;
+      no_mask = λ s e. ap (λ (m : Mark). m.mask) (get_or_past b.marks s blank (ltb-false s (length b.marks) e));
+      no_reward = λ s e. ap (λ (m : Mark). pos m.worth.raised -ℤ pos 2000) (get_or_past b.marks s blank (ltb-false s (length b.marks) e));
+    };
+    grounds = record { grounded = grounded_law; no_ground = λ s e. cond-false _ s 0 e };
   }
 
   pub site_ground : Ground (site_model b)

@@ -1,6 +1,6 @@
 -- Reading the encoding of a valid site book gives that book back: its words lead through the format. For others:
 -- `site_faithful`, the three laws of the layout.
-use Rattle.std.proofs.Common.{◌≡◌, ℕ, zero, suc, ◌+◌, ◌-◌, ◌*◌, ◌/◌, ◌%◌, ◌^◌, ◌<◌, ◌≤◌, true, false, cond, not, eqb, leb, List, [], ◌∷◌, ◌++◌, length, replicate, Some, None, Ok, sym, refl, ap, ◌∙◌, subst, append_assoc, append-nil, mod-lt, zero-add, arith, length-append, pow_mono}
+use Rattle.std.proofs.Common.{◌≡◌, ℕ, zero, suc, ◌+◌, ◌-◌, ◌*◌, ◌/◌, ◌%◌, ◌^◌, ◌<◌, ◌≤◌, IsTrue, true, false, cond, not, eqb, leb, List, [], ◌∷◌, ◌++◌, length, replicate, Some, None, Ok, sym, refl, ap, ◌∙◌, subst, append_assoc, append-nil, mod-lt, zero-add, arith, length-append, pow_mono}
 use Rattle.std.proofs.lemmas.Nat.{div-add-mod', div_below, mul-le}
 use Rattle.std.proofs.lemmas.List.{length_push, replicate_more}
 use Rattle.std.proofs.lemmas.Bool.{and_parts, or_parts, or_from, eqb-false, ne_eqb, eq-eqb, lt-ltb, le-ltb, le-leb, not-true, not_from_false}
@@ -262,7 +262,7 @@ reads_back_from labels actions m rest cells v =
     (book_step (record { states = length (m ∷ rest); labels = labels; actions = actions }) (m ∷ rest) table.0 (record { labels = labels; actions = actions; marks = m ∷ rest; cells = cells }) (λ i. record { labels = labels; actions = actions; marks = m ∷ rest; cells = full i })
     (ap (waits actions (length (m ∷ rest))) full ∙ v.waiting))
 
-reads_back : ReadsBack site_format (λ b. valid b ≡ true) site_words
+reads_back : ReadsBack site_format (λ b. IsTrue (valid b)) site_words
 reads_back b e = from b.marks refl
   where
     from : (ms : List Mark) → b.marks ≡ ms → reading site_format (file (site_words b)) ≡ got b
@@ -272,9 +272,9 @@ reads_back b e = from b.marks refl
         subst (λ x. reading site_format (file (site_words x)) ≡ got x) same (reads_back_from b.labels b.actions m rest b.cells (validly _ (ap valid same ∙ e)))
 
 -- the three laws of the site book's layout
-pub site_faithful : Faithful site_format (λ b. valid b ≡ true) site_words
+pub site_faithful : Faithful site_format (λ b. IsTrue (valid b)) site_words
 site_faithful = record {
   places = places_right site_format;
   back = reads_back;
-  only = only_encodings site_format (λ b. valid b ≡ true) site_words Good written (λ s t w low. word_kept s t w) (λ s w low good. end_word_reads s w) book_kept tt refl;
+  only = only_encodings site_format (λ b. IsTrue (valid b)) site_words Good written (λ s t w low. word_kept s t w) (λ s w low good. end_word_reads s w) book_kept tt refl;
 }

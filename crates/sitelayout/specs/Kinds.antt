@@ -1,5 +1,5 @@
 -- The kinds of the words of a site book, and the number that each is written as in the highest four bits of a word.
-use Rattle.std.specs.Prelude.{ℕ, cond, Ok, Err, Result, ◌==◌}
+use Rattle.std.specs.Prelude.{ℕ, Ok, Err, Result, ◌==◌, if◌then◌else◌}
 use Rattle.refusal.specs.declared.Refusal.{Refusal}
 use Rattle.refusal.specs.declared.Refusal.TheVariants.{WrongKind}
 use Rattle.words.specs.Words.{kind}
@@ -17,12 +17,13 @@ number_of End = 15
 -- the kind that has a number, if any has
 abbrev pub numbered : ℕ → Result Kind Refusal
 numbered n =
-    cond (n == number_of Head) (Ok Head)
-    (cond (n == number_of Mask) (Ok Mask)
-    (cond (n == number_of Reward) (Ok Reward)
-    (cond (n == number_of Entry) (Ok Entry)
-    (cond (n == number_of Move) (Ok Move)
-    (cond (n == number_of End) (Ok End) (Err WrongKind))))))
+    if n == number_of Head then Ok Head
+    else if n == number_of Mask then Ok Mask
+    else if n == number_of Reward then Ok Reward
+    else if n == number_of Entry then Ok Entry
+    else if n == number_of Move then Ok Move
+    else if n == number_of End then Ok End
+    else Err WrongKind
 
 abbrev pub kind_of : ℕ → Result Kind Refusal
 kind_of w = numbered (kind w)

@@ -1,6 +1,6 @@
 -- How a site book is written in words, and how it is read: head, two words for each state, the entries in rising order of
 -- state and action, each with its outcomes, and the end word.
-use Rattle.std.specs.Prelude.{◌≡◌, ℕ, zero, suc, ◌+◌, ◌-◌, ◌*◌, ◌/◌, ◌%◌, ◌^◌, ◌<◌, ◌≤◌, Bool, true, cond, not, List, [], ◌∷◌, ◌++◌, length, replicate, Some, None, Ok, Err, Option, Result, ◌==◌, nat_le, nat_lt}
+use Rattle.std.specs.Prelude.{◌≡◌, ℕ, zero, suc, ◌+◌, ◌-◌, ◌*◌, ◌/◌, ◌%◌, ◌^◌, ◌<◌, ◌≤◌, Bool, true, not, List, [], ◌∷◌, ◌++◌, length, replicate, Some, None, Ok, Err, Option, Result, ◌==◌, nat_le, nat_lt, if◌then◌else◌, IsTrue}
 use Rattle.refusal.specs.declared.Refusal.{Refusal}
 use Rattle.refusal.specs.declared.Refusal.TheVariants.{WrongKind, WrongTotal, NotRising, NoWait}
 use Rattle.words.specs.Words.{kind}
@@ -56,7 +56,7 @@ padded k cells = cells ++ replicate (k - length cells) []
 
 -- one state more: the entries begin after the last
 abbrev pub marked : Head → List Mark → Draft
-marked h ms = cond (nat_lt (length ms) h.states) (marking h ms None) (listing h ms [])
+marked h ms = if nat_lt (length ms) h.states then marking h ms None else listing h ms []
 
 -- entries rise strictly by state and action
 abbrev pub read_entry : Head → List Mark → List (List Move) → Entry → Step Draft
@@ -76,7 +76,9 @@ unfoldable pub read_word : Draft → ℕ → Step Draft
 read_word fresh w = onto (head_of w) (λ h. more (marking h [] None))
 read_word (marking h ms None) w = onto (mask_of h.labels w) (λ m. more (marking h ms (Some m)))
 read_word (marking h ms (Some m)) w = onto (reward_of w) (λ r. more (marked h (ms ++ (record { mask = m; worth = r } ∷ []))))
-read_word (listing h ms cs) w = cond (kind w == number_of End) ends (onto (entry_of h.states h.actions w) (read_entry h ms cs))
+read_word (listing h ms cs) w =
+    if kind w == number_of End then ends
+    else onto (entry_of h.states h.actions w) (read_entry h ms cs)
 read_word (moving h ms cs mv due) w = onto (move_of h.states w) (read_move h ms cs mv due)
 
 abbrev pub book_of : Head → List Mark → List (List Move) → Site
@@ -84,10 +86,10 @@ book_of h ms cs = record { labels = h.labels; actions = h.actions; marks = ms; c
 
 -- at the end action 0 is offered in every state; an end word comes nowhere else than after whole entries
 unfoldable pub whole_book : Draft → Result Site Refusal
-whole_book fresh = Err WrongKind
-whole_book (marking h ms o) = Err WrongKind
-whole_book (listing h ms cs) = cond (waits h.actions h.states (padded (h.states * h.actions) cs)) (Ok (book_of h ms cs)) (Err NoWait)
-whole_book (moving h ms cs mv due) = Err WrongKind
+whole_book (listing h ms cs) =
+    if waits h.actions h.states (padded (h.states * h.actions) cs) then Ok (book_of h ms cs)
+    else Err NoWait
+whole_book d = Err WrongKind
 
 abbrev pub site_format : Format Draft Site
 site_format = record { start = fresh; step = read_word; finish = whole_book }
@@ -117,7 +119,7 @@ GoodMask labels None = Unit {0}
 GoodMask labels (Some m) = m < 2 ^ labels
 
 abbrev pub GoodMarks : Head → List Mark → Type 0
-GoodMarks h ms = GoodHead h × (all (good_mark h.labels) ms ≡ true)
+GoodMarks h ms = GoodHead h × IsTrue (all (good_mark h.labels) ms)
 
 -- the last of the cells, if there is any, is that of an entry
 abbrev pub ends_offered : List (List Move) → Bool
@@ -130,7 +132,7 @@ abbrev pub Good : Draft → Type 0
 Good fresh = Unit {0}
 Good (marking h ms o) = GoodMarks h ms × ((length ms < h.states) × GoodMask h.labels o)
 Good (listing h ms cs) =
-    GoodMarks h ms × ((length ms ≡ h.states) × ((all (good_cell h.states) cs ≡ true) × ((length cs ≤ h.states * h.actions) × (ends_offered cs ≡ true))))
+    GoodMarks h ms × ((length ms ≡ h.states) × (IsTrue (all (good_cell h.states) cs) × ((length cs ≤ h.states * h.actions) × IsTrue (ends_offered cs))))
 Good (moving h ms cs mv due) =
-    GoodMarks h ms × ((length ms ≡ h.states) × ((all (good_cell h.states) cs ≡ true) × ((length cs < h.states * h.actions)
-    × ((all (good_move h.states) mv ≡ true) × ((apart mv ≡ true) × (length mv + suc due ≤ 8))))))
+    GoodMarks h ms × ((length ms ≡ h.states) × (IsTrue (all (good_cell h.states) cs) × ((length cs < h.states * h.actions)
+    × (IsTrue (all (good_move h.states) mv) × (IsTrue (apart mv) × (length mv + suc due ≤ 8))))))

@@ -22,10 +22,8 @@ due_kind (moving h ms cs mv due) = Move
 
 -- an end word may come: after the states, and after any whole entry
 abbrev pub may_end : Draft → Bool
-may_end fresh = false
-may_end (marking h ms o) = false
 may_end (listing h ms cs) = true
-may_end (moving h ms cs mv due) = false
+may_end d = false
 
 abbrev pub is_end : ℕ → Bool
 is_end w = kind w == number_of End
@@ -61,18 +59,14 @@ in_range (moving h ms cs mv due) w = nat_lt (move_in w).target h.states && withi
 
 -- NotRising: an entry stands behind those before it, by state and action; the target of an outcome is none of those before it in its entry
 abbrev pub rises : Draft → ℕ → Bool
-rises fresh w = true
-rises (marking h ms o) w = true
 rises (listing h ms cs) w = is_end w || nat_le (length cs) (place_of h (entry_in w))
 rises (moving h ms cs mv due) w = not (taken (move_in w).target mv)
+rises d w = true
 
 -- WrongTotal: with the last outcome of an entry its weights total 8
 abbrev pub totals : Draft → ℕ → Bool
-totals fresh w = true
-totals (marking h ms o) w = true
-totals (listing h ms cs) w = true
 totals (moving h ms cs mv zero) w = total (mv ++ (move_in w ∷ [])) == 8
-totals (moving h ms cs mv (suc due)) w = true
+totals d w = true
 
 -- the test of one word, by the refusal
 abbrev pub passes : Draft → ℕ → Refusal → Bool

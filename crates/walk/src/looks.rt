@@ -8,7 +8,8 @@ use weighing::discount;
 
 // What the reward of a state counts in a slot, in 256ths.
 pub(crate) fn counted<M: SiteModel>(model: &M, slot: usize, state: u64) -> i32
-    ensures value { result ≡ pos (discount_of slot) *ℤ (M.SiteModel.meaning model.now).reward state }
+    ensures value { result ≡
+        pos (discount_of slot) *ℤ (M.SiteModel.meaning model.now).reward state }
     ensures small { unsigned_abs result ≤ 512000 }
 {
     discount(slot) as i32 * model.reward(state)

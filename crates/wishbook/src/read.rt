@@ -1,5 +1,5 @@
 // Reading a wish book, and what a book holds.
-ghost use Rattle.std.specs.Prelude.{◌≡◌, true, IfOk};
+ghost use Rattle.std.specs.Prelude.{◌≡◌, IfOk, IsTrue};
 ghost use Rattle.words.specs.Format.{Faithful};
 ghost use Rattle.words.specs.Refusing.{RefusesRightly};
 ghost use Rattle.wishlayout.specs.Layout.{wish_format, wish_words, Good, written};
@@ -19,7 +19,7 @@ use words::read;
 #[tactic(auto, using(crate::proofs::Whole::same_wishes, crate::proofs::Remembering::answer_keeps, wishlayout::proofs::Way::wish_faithful, wishlayout::proofs::Refusing::wish_refuses))]
 pub fn read_wish(bytes: &[u8]) -> Result<WishBook, Fault>
     ensures reads { Reads bytes.now result }
-    ensures faithful { Faithful wish_format (λ b. valid b ≡ true) wish_words }
+    ensures faithful { Faithful wish_format (λ b. IsTrue (valid b)) wish_words }
     ensures refuses { RefusesRightly wish_format Good written may_end passes closes }
     ensures means { SameWishes }
     ensures remembers { IfOk result (λ book. KeepsItems (contents book)) }

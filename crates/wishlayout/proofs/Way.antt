@@ -1,6 +1,6 @@
 -- The layout of wish books is faithful: reading the encoding of a valid book gives that book back, and whatever is accepted is the
 -- encoding of the book that was read.
-use Rattle.std.proofs.Common.{◌≡◌, ℕ, suc, ◌+◌, ◌^◌, ◌<◌, ◌≤◌, true, false, cond, not, eqb, ltb, leb, List, [], ◌∷◌, ◌++◌, length, Ok, sym, refl, ap, ◌∙◌, subst, inl, inr, append_assoc, append-nil, arith, rules, length-append}
+use Rattle.std.proofs.Common.{◌≡◌, ℕ, suc, ◌+◌, ◌^◌, ◌<◌, ◌≤◌, IsTrue, true, false, cond, not, eqb, ltb, leb, List, [], ◌∷◌, ◌++◌, length, Ok, sym, refl, ap, ◌∙◌, subst, inl, inr, append_assoc, append-nil, arith, rules, length-append}
 use Rattle.std.proofs.lemmas.List.{length_push, length-map, map_push}
 use Rattle.std.proofs.lemmas.Bool.{and_parts, ltb-true, cases_Bool, not-true}
 use Rattle.formula.specs.declared.Node.{Node}
@@ -146,9 +146,9 @@ reads_back_from (n ∷ ns) (w ∷ ws) v =
     size (end_step (n ∷ ns) (w ∷ ws) (length (wish_words (record { nodes = n ∷ ns; wishes = w ∷ ws }))) size) (book_step (n ∷ ns) (w ∷ ws) v.items)
 
 -- the three laws of the wish book's layout
-pub wish_faithful : Faithful wish_format (λ b. valid b ≡ true) wish_words
+pub wish_faithful : Faithful wish_format (λ b. IsTrue (valid b)) wish_words
 wish_faithful = record {
   places = places_right wish_format;
   back = λ b e. reads_back_from b.nodes b.wishes (validly b e);
-  only = only_encodings wish_format (λ b. valid b ≡ true) wish_words Good written (λ s t w low. word_kept s t w) end_word_reads book_kept (refl, (refl, omega arith)) refl;
+  only = only_encodings wish_format (λ b. IsTrue (valid b)) wish_words Good written (λ s t w low. word_kept s t w) end_word_reads book_kept (refl, (refl, omega arith)) refl;
 }

@@ -1,5 +1,5 @@
 -- How a wish book is written in words, and how it is read: 1 to 128 node words, 1 to 16 wishes, and the end word.
-use Rattle.std.specs.Prelude.{◌≡◌, ℕ, ◌≤◌, true, cond, not, List, [], ◌∷◌, ◌++◌, map, length, Ok, Err, Result, ◌==◌, nat_le, nat_lt}
+use Rattle.std.specs.Prelude.{ℕ, ◌≤◌, not, List, [], ◌∷◌, ◌++◌, map, length, Ok, Err, Result, ◌==◌, nat_le, nat_lt, if◌then◌else◌, IsTrue}
 use Rattle.formula.specs.declared.Node.{Node}
 use Rattle.formula.specs.Formulas.{earlier}
 use Rattle.refusal.specs.declared.Refusal.{Refusal}
@@ -36,15 +36,18 @@ read_wish ns ws w = onto (wish_of (length ns) w) (λ x. more (wishing ns (ws ++ 
 -- what may come next, and what it adds
 unfoldable pub read_word : Draft → ℕ → Step Draft
 read_word (noding ns) w =
-    cond (kind w == 10)
-    (check (not (none ns)) WrongKind (read_wish ns [] w))
-    (check (nat_lt (length ns) 128) WrongKind (onto (node_of (length ns) w) (λ n. more (noding (ns ++ (n ∷ []))))))
-read_word (wishing ns ws) w = cond (kind w == 15) ends (check (nat_lt (length ws) 16) WrongKind (read_wish ns ws w))
+    if kind w == 10 then check (not (none ns)) WrongKind (read_wish ns [] w)
+    else check (nat_lt (length ns) 128) WrongKind (onto (node_of (length ns) w) (λ n. more (noding (ns ++ (n ∷ [])))))
+read_word (wishing ns ws) w =
+    if kind w == 15 then ends
+    else check (nat_lt (length ws) 16) WrongKind (read_wish ns ws w)
 
 -- at the end the wishes need at most 16 items; an end word comes only after a wish
 unfoldable pub whole_book : Draft → Result Wishes Refusal
 whole_book (noding ns) = Err WrongKind
-whole_book (wishing ns ws) = cond (nat_le (length (items_for ns ws)) 16) (Ok (record { nodes = ns; wishes = ws })) (Err TooManyItems)
+whole_book (wishing ns ws) =
+    if nat_le (length (items_for ns ws)) 16 then Ok (record { nodes = ns; wishes = ws })
+    else Err TooManyItems
 
 abbrev pub wish_format : Format Draft Wishes
 wish_format = record { start = noding []; step = read_word; finish = whole_book }
@@ -59,8 +62,8 @@ written (wishing ns ws) = node_words ns ++ amount_words ws
 -- what is known of a draft: its nodes and wishes are good ones, and not too many
 
 abbrev pub GoodNodes : List Node → Type 0
-GoodNodes ns = (earlier ns ≡ true) × ((all good_label ns ≡ true) × (length ns ≤ 128))
+GoodNodes ns = IsTrue (earlier ns) × (IsTrue (all good_label ns) × (length ns ≤ 128))
 
 abbrev pub Good : Draft → Type 0
 Good (noding ns) = GoodNodes ns
-Good (wishing ns ws) = GoodNodes ns × ((1 ≤ length ns) × ((1 ≤ length ws) × ((length ws ≤ 16) × (all (good_wish (length ns)) ws ≡ true))))
+Good (wishing ns ws) = GoodNodes ns × ((1 ≤ length ns) × ((1 ≤ length ws) × ((length ws ≤ 16) × IsTrue (all (good_wish (length ns)) ws))))

@@ -1,6 +1,6 @@
 -- What one word of a wish book says, by its kind: how it is written, and what it says where it is in order by itself.
 -- The tests come in this order: the kind, unused bits, ranges. Operands number earlier node words.
-use Rattle.std.specs.Prelude.{ℕ, ◌+◌, ◌*◌, ◌^◌, Bool, cond, ◌&&◌, ◌||◌, Ok, Err, Result, ◌==◌, nat_lt}
+use Rattle.std.specs.Prelude.{ℕ, ◌+◌, ◌*◌, ◌^◌, Bool, ◌&&◌, ◌||◌, Ok, Err, Result, ◌==◌, nat_lt, if◌then◌else◌}
 use Rattle.formula.specs.declared.Node.{Node}
 use Rattle.formula.specs.declared.Node.TheVariants.{Label, True, Not, And, Or, Previous, Since, Always, Once}
 use Rattle.refusal.specs.declared.Refusal.{Refusal}
@@ -52,10 +52,19 @@ abbrev pub true_in : ℕ → Result Node Refusal
 true_in w = require (field w 0 28 == 0) UnusedBit (Ok True)
 
 abbrev pub unary_of : ℕ → ℕ → Result Node Refusal
-unary_of k a = cond (k == 2) (Ok (Not a)) (cond (k == 5) (Ok (Previous a)) (cond (k == 7) (Ok (Always a)) (cond (k == 8) (Ok (Once a)) (Err WrongKind))))
+unary_of k a =
+    if k == 2 then Ok (Not a)
+    else if k == 5 then Ok (Previous a)
+    else if k == 7 then Ok (Always a)
+    else if k == 8 then Ok (Once a)
+    else Err WrongKind
 
 abbrev pub binary_of : ℕ → ℕ → ℕ → Result Node Refusal
-binary_of k a b = cond (k == 3) (Ok (And a b)) (cond (k == 4) (Ok (Or a b)) (cond (k == 6) (Ok (Since a b)) (Err WrongKind)))
+binary_of k a b =
+    if k == 3 then Ok (And a b)
+    else if k == 4 then Ok (Or a b)
+    else if k == 6 then Ok (Since a b)
+    else Err WrongKind
 
 abbrev pub is_unary : ℕ → Bool
 is_unary k = k == 2 || (k == 5 || (k == 7 || k == 8))
@@ -66,10 +75,11 @@ is_binary k = k == 3 || (k == 4 || k == 6)
 -- a node word after count others: label 1, not 2, and 3, or 4, previous 5, since 6, always 7, once 8, true 9
 abbrev pub node_of : ℕ → ℕ → Result Node Refusal
 node_of count w =
-    cond (kind w == 1) (following (label_in w) (λ p. Ok (Label p)))
-    (cond (is_unary (kind w)) (following (one_in count w) (unary_of (kind w)))
-    (cond (is_binary (kind w)) (following (two_in count w) (λ p. binary_of (kind w) p.0 p.1))
-    (cond (kind w == 9) (true_in w) (Err WrongKind))))
+    if kind w == 1 then following (label_in w) (λ p. Ok (Label p))
+    else if is_unary (kind w) then following (one_in count w) (unary_of (kind w))
+    else if is_binary (kind w) then following (two_in count w) (λ p. binary_of (kind w) p.0 p.1)
+    else if kind w == 9 then true_in w
+    else Err WrongKind
 
 -- kind 10: the node in bits 0 to 7, the amount plus 255 in 8 to 16
 abbrev pub wish_of : ℕ → ℕ → Result Wish Refusal

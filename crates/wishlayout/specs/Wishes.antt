@@ -2,7 +2,7 @@
 -- and an amount. The wishes need at most 16 memory items.
 use Rattle.std.specs.Prelude.{ℕ, Bool, true, ◌&&◌, List, map, length, ℤ, pos, ◌-ℤ◌, nat_le, nat_lt}
 use Rattle.formula.specs.declared.Node.{Node}
-use Rattle.formula.specs.declared.Node.TheVariants.{Label, True, Not, And, Or, Previous, Since, Always, Once}
+use Rattle.formula.specs.declared.Node.TheVariants.{Label}
 use Rattle.formula.specs.declared.Item.{Item}
 use Rattle.formula.specs.Formulas.{earlier}
 use Rattle.formula.specs.Items.{items_of}
@@ -19,14 +19,7 @@ items_for ns ws = items_of ns (map (λ w. w.node) ws)
 
 abbrev pub good_label : Node → Bool
 good_label (Label p) = nat_lt p 32
-good_label True = true
-good_label (Not a) = true
-good_label (And a b) = true
-good_label (Or a b) = true
-good_label (Previous a) = true
-good_label (Since a b) = true
-good_label (Always a) = true
-good_label (Once a) = true
+good_label n = true
 
 -- the amount of a wish
 abbrev pub amount : Wish → ℤ

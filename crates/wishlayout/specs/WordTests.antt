@@ -1,6 +1,6 @@
 -- What a word has to be that comes after a draft, each test by itself; and what the whole has to be at its end word. A test that cannot be
 -- asked of a word, since it fails an earlier one, says nothing there. In which order they are asked is told by `word_tests`.
-use Rattle.std.specs.Prelude.{ℕ, ◌-◌, Bool, true, false, cond, not, ◌&&◌, ◌||◌, List, length, ◌==◌, nat_le, nat_lt}
+use Rattle.std.specs.Prelude.{ℕ, ◌-◌, Bool, true, false, not, ◌&&◌, ◌||◌, List, length, ◌==◌, nat_le, nat_lt, if◌then◌else◌}
 use Rattle.formula.specs.declared.Node.{Node}
 use Rattle.refusal.specs.declared.Refusal.{Refusal}
 use Rattle.refusal.specs.declared.Refusal.TheVariants.{WrongKind, UnusedBit, OutOfRange, TooManyItems}
@@ -34,7 +34,13 @@ kind_may_come d w =
 
 -- how many of its lowest bits have a field, by a word's kind: a label, one operand, two, none, a node and an amount; an end word uses all
 abbrev pub width_of : ℕ → ℕ
-width_of k = cond (k == 1) 5 (cond (is_unary k) 8 (cond (is_binary k) 16 (cond (k == 9) 0 (cond (k == 10) 17 28))))
+width_of k =
+    if k == 1 then 5
+    else if is_unary k then 8
+    else if is_binary k then 16
+    else if k == 9 then 0
+    else if k == 10 then 17
+    else 28
 
 -- UnusedBit: the bits that no field of the word's kind has are 0
 abbrev pub unused_clear : ℕ → Bool
@@ -47,9 +53,9 @@ nodes_of (wishing ns ws) = ns
 -- OutOfRange: an operand, and the node of a wish, is the number of an earlier node word
 abbrev pub in_range : ℕ → ℕ → Bool
 in_range count w =
-    cond (is_unary (kind w) || kind w == 10) (nat_lt (field w 0 8) count)
-    (cond (is_binary (kind w)) (nat_lt (field w 0 8) count && nat_lt (field w 8 8) count)
-    true)
+    if is_unary (kind w) || kind w == 10 then nat_lt (field w 0 8) count
+    else if is_binary (kind w) then nat_lt (field w 0 8) count && nat_lt (field w 8 8) count
+    else true
 
 -- the test of one word, by the refusal
 abbrev pub passes : Draft → ℕ → Refusal → Bool

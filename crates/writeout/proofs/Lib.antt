@@ -5,4 +5,5 @@ pub mod Copying
 pub mod Carrying
 pub mod Back
 pub mod Wording
+pub mod Outcomes
 pub mod Booking

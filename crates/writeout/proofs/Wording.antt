@@ -58,7 +58,7 @@ below_small m law codes c k (suc n) =
       ap length (append-nil (cell_word m.actions (k + length (cells_below m codes c n)) (cell_of m codes c n))),
       cell-length m.actions (k + length (cells_below m codes c n)) (cell_of m codes c n),
       length-map (m.outcomes c n) (move_to codes),
-      law.few c n,
+      law.moves.few c n,
       below_small m law codes c k n,
     )
 
@@ -70,7 +70,7 @@ states_small m law codes (c ∷ cs) k =
       ap length (cells-append m.actions k (cells_below m codes c m.actions) (cells_of m codes cs)),
       length-append (cell_words m.actions k (cells_below m codes c m.actions)) (cell_words m.actions (k + length (cells_below m codes c m.actions)) (cells_of m codes cs)),
       below_small m law codes c k m.actions,
-      law.acts,
+      law.moves.acts,
       states_small m law codes cs (k + length (cells_below m codes c m.actions)),
     )
 

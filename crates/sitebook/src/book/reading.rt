@@ -1,5 +1,5 @@
 // Reading a site book: the verdict on the file first, and then the tables.
-ghost use Rattle.std.specs.Prelude.{◌≡◌, true, MatchResult};
+ghost use Rattle.std.specs.Prelude.{◌≡◌, IsTrue, MatchResult};
 ghost use Rattle.words.specs.Format.{Faithful, got, reading};
 ghost use Rattle.words.specs.Refusing.{RefusesRightly};
 ghost use Rattle.sitelayout.specs.Layout.{site_format, site_words, Good, written};
@@ -22,7 +22,7 @@ use words::next_word;
 #[tactic(auto, using(sitelayout::proofs::Way::site_faithful, sitelayout::proofs::Refusing::site_refuses))]
 pub fn read_site(heap: Global, bytes: &[u8]) -> Result<SiteBook, Unread>
     ensures reads { MatchResult result (λ b. reading site_format bytes.now ≡ got (contents b)) (λ why. NotRead (reading site_format bytes.now) why) }
-    ensures faithful { Faithful site_format (λ b. valid b ≡ true) site_words }
+    ensures faithful { Faithful site_format (λ b. IsTrue (valid b)) site_words }
     ensures refuses { RefusesRightly site_format Good written may_end passes closes }
 {
     let counts = verdict(bytes)?;
