@@ -4,8 +4,8 @@ use Rattle.std.proofs.lemmas.List.{at_drop_more}
 use Rattle.std.proofs.lemmas.Int.{fits_signed_from_abs, to_z-of_z}
 use Rattle.wishlayout.specs.declared.Wish.{Wish}
 use Rattle.wishlayout.specs.Wishes.{amount}
-use Rattle.layer.specs.Verdicts.{wish_held, earned}
-use Rattle.layer.specs.Sizes.{abs_add}
+use Rattle.layermodel.specs.Verdicts.{wish_held, earned}
+use Rattle.layermodel.proofs.Sizes.{abs_add}
 
 -- a sum of small numbers, in 32 bits
 sum_is : (t a : ℤ) → nat_abs t ≤ 2 ^ 30 → nat_abs a < 65536 → to_z w32 (of_z w32 (t +ℤ to_z w32 (of_z w32 a))) ≡ t +ℤ a

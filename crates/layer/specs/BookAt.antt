@@ -4,7 +4,7 @@ use Rattle.model.specs.Models.{Model}
 use Rattle.wishbook.specs.declared.book.WishBook.{WishBook}
 use Rattle.wishbook.specs.Contents.{contents}
 use Rattle.layer.specs.declared.book_at.BookAt.{BookAt}
-use Rattle.layer.specs.Layered.{under, verdicts_at}
+use Rattle.layermodel.specs.Layered.{under, verdicts_at}
 
 abbrev pub known : BookAt → List Bool
 known j = take (length (contents j.book.now).nodes) j.truths

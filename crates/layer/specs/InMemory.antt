@@ -1,18 +1,12 @@
 -- What a layer in memory means.
-use Rattle.std.specs.Prelude.{◌≡◌, ℕ, ◌+◌, ◌*◌, Bool, IsTrue, if◌then◌else◌, Some, None, Option}
+use Rattle.std.specs.Prelude.{◌≡◌, ℕ, ◌+◌, ◌*◌, IsTrue, if◌then◌else◌, Some, None, Option}
 use Rattle.std.specs.Option.{option_map}
 use Rattle.model.specs.declared.Outcome.{Outcome}
 use Rattle.model.specs.Models.{Model}
 use Rattle.wishbook.specs.Book.{Book}
 use Rattle.wishbook.specs.Contents.{contents}
-use Rattle.formula.specs.declared.Item.{Item}
 use Rattle.layer.specs.declared.layers.Layer.{Layer}
-use Rattle.layer.specs.declared.recalled.Recalled.{Recalled}
-use Rattle.layer.specs.Layered.{fits, memory, layered, over}
-use Rattle.layer.specs.Verdicts.{recalled}
-
-abbrev pub recalled_by : Recalled → Item → Bool
-recalled_by r = recalled r.items.now r.memory
+use Rattle.layermodel.specs.Layered.{fits, memory, layered, over}
 
 -- an outcome of the model below, with the memory beside its target
 abbrev pub moved : ℕ → Outcome → Outcome

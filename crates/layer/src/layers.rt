@@ -2,9 +2,9 @@
 ghost use Rattle.std.specs.Prelude.{◌≡◌, None, MatchOption};
 ghost use Rattle.std.specs.Option.{option_map};
 ghost use Rattle.wishbook.specs.Contents.{contents};
-ghost use Rattle.layer.specs.Layered.{over, refusal as refusal_of};
+ghost use Rattle.layermodel.specs.Layered.{over, refusal as refusal_of};
 ghost use Rattle.layer.specs.InMemory.{meaning_of, Lies, Bare, laid_in, memory_in};
-ghost use Rattle.layer.specs.Lawfulness.{layer_lawful};
+ghost use Rattle.layermodel.proofs.Lawfulness.{layer_lawful};
 ghost use Rattle.model.specs.Models.{sizes_of};
 
 use crate::fitted::{Fitted, MEMORIES};

@@ -10,9 +10,9 @@ use Rattle.model.specs.Models.{Model, Lawful, Ground}
 use Rattle.words.specs.Tests.{all}
 use Rattle.wishbook.specs.Book.{Book, items_over}
 use Rattle.wishlayout.specs.Wishes.{good_wish}
-use Rattle.layer.specs.Layered.{fits, layered, over}
-use Rattle.layer.specs.Records.{code_over, mask_over, reward_over, SoundBook}
-use Rattle.layer.proofs.Unfolds.{layer_unfolds}
+use Rattle.layermodel.specs.Layered.{fits, layered, over}
+use Rattle.layermodel.specs.Records.{code_over, mask_over, reward_over, SoundBook}
+use Rattle.layermodel.proofs.Unfolds.{layer_unfolds}
 use Rattle.pile.specs.Piles.{Floor, piled, Shown, on_ground, with_floor, with_floors, SoundFloor, SoundFloors, shown_on, Keeps}
 
 map_keeps : (h : List ℕ) (os : List Outcome) → map (along final h) os ≡ os

@@ -11,9 +11,8 @@ use Rattle.refusal.specs.declared.Refusal.{Refusal}
 use Rattle.wishbook.specs.declared.book.WishBook.{WishBook}
 use Rattle.wishbook.specs.Book.{Book}
 use Rattle.wishbook.specs.Contents.{contents}
-use Rattle.layer.specs.Lawfulness.{room}
-use Rattle.layer.specs.Layered.{refusal, fits, layered, over}
-use Rattle.layer.proofs.Refusing.{fit_is}
+use Rattle.layermodel.proofs.Lawfulness.{fit_is, room}
+use Rattle.layermodel.specs.Layered.{refusal, fits, layered, over}
 use Rattle.pile.specs.Piles.{piled}
 use Rattle.pile.specs.Stacks.{floor_refusal, floors_in, floor_at, refusal_at, AllLaid, IsFirstRefused}
 use Rattle.pile.specs.declared.laying.Unlaid.{Unlaid}

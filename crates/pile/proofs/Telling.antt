@@ -19,12 +19,12 @@ use Rattle.words.specs.Tests.{all}
 use Rattle.wishbook.specs.Book.{Book}
 use Rattle.wishlayout.specs.declared.Wish.{Wish}
 use Rattle.wishlayout.specs.Wishes.{amount, good_wish}
-use Rattle.layer.specs.Verdicts.{item_held, wish_held, earned}
-use Rattle.layer.specs.Lawfulness.{memory_packed, over_lawful}
-use Rattle.layer.specs.Layered.{fits, under, memory, layered, over}
-use Rattle.layer.specs.Records.{trace_of, end_of, truths, memory_at, code_over, mask_over, reward_over, tells, SoundBook}
-use Rattle.layer.specs.Sizes.{bits_small}
-use Rattle.layer.proofs.Bits.{memory_tells, wishes_show, labels_stay}
+use Rattle.layermodel.specs.Verdicts.{item_held, wish_held, earned}
+use Rattle.layermodel.proofs.Lawfulness.{memory_packed, over_lawful}
+use Rattle.layermodel.specs.Layered.{fits, under, memory, layered, over}
+use Rattle.layermodel.specs.Records.{trace_of, end_of, truths, memory_at, code_over, mask_over, reward_over, tells, SoundBook}
+use Rattle.layermodel.proofs.Sizes.{bits_small}
+use Rattle.layermodel.proofs.Bits.{memory_tells, wishes_show, labels_stay}
 use Rattle.pile.specs.Piles.{Floor, piled, Shown, on_ground, with_floor, with_floors, SoundFloor, SoundFloors, shown_on}
 use Rattle.pile.specs.Telling.{below_floor, state_below, memory_of_floor, masks_below, formula_at, Told, OneEarlier, wish_holds, FloorTells, BitsTell}
 use Rattle.pile.proofs.Keeping.{sound_unfolds, pile_keeps}

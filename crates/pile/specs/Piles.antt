@@ -4,8 +4,8 @@ use Rattle.std.specs.Prelude.{◌≡◌, ℕ, cond, List, [], ◌∷◌, ℤ, So
 use Rattle.model.specs.Histories.{final, Unfolds, OnePathAbove}
 use Rattle.model.specs.Models.{Model, Lawful, Ground}
 use Rattle.wishbook.specs.Book.{Book}
-use Rattle.layer.specs.Layered.{fits, over}
-use Rattle.layer.specs.Records.{code_over, mask_over, reward_over, SoundBook}
+use Rattle.layermodel.specs.Layered.{fits, over}
+use Rattle.layermodel.specs.Records.{code_over, mask_over, reward_over, SoundBook}
 
 -- a floor is a wish book, or none
 abbrev pub Floor : Type 0

@@ -1,6 +1,6 @@
 // What is promised of every pile.
 ghost use Rattle.std.specs.Prelude.{◌≡◌, [], ◌∷◌};
-ghost use Rattle.layer.specs.Records.{MemoryTells, WishesShow, LabelsStay};
+ghost use Rattle.layermodel.specs.Records.{MemoryTells, WishesShow, LabelsStay};
 ghost use Rattle.pile.specs.Piles.{piled, shown_on, Keeps};
 ghost use Rattle.pile.specs.Telling.{BitsTell};
 
