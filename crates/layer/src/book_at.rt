@@ -1,5 +1,6 @@
 // A wish book in a state: the label mask there, the truth of each of its nodes, and what the state comes to.
-// It is one book in one state. `judge`, `remember` and `wish_bits`, which it hands on to, answer for truths of any length.
+// It is one book in one state. `judge`, `remember` and `wish_bits`, which it hands on to, answer for truths of
+// any length.
 ghost use Rattle.std.specs.Prelude.{◌≡◌, length};
 
 use layermodel::{at, judge, remember, wish_bits};
@@ -54,7 +55,8 @@ impl<'a> BookAt<'a> {
         wish_bits(self.book, self.known())
     }
 
-    // A sum, and the amounts of the wishes that hold. A `for` over the book's wishes: this form is fixed, see docs/DECISIONS.md.
+    // A sum, and the amounts of the wishes that hold. A `for` over the book's wishes: this form is fixed, see
+    // docs/DECISIONS.md.
     pub(crate) fn earned(&self, sum: i32) -> i32
         requires { unsigned_abs sum ≤ 2000 }
         ensures { result ≡ earned sum (contents self.now.book.now).wishes (known self.now) }

@@ -1,4 +1,4 @@
-// A wish book laid on any model.
+//! A wish book laid on any model.
 
 #![tactic(auto)]
 

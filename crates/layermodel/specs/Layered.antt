@@ -1,5 +1,6 @@
--- A layer lays one wish book on any model and is again a model. Its states are a state below and a memory, as one number:
--- (state below) × 65,536 + memory. The memory of the state arrived at is worked out at the state left.
+-- A layer lays one wish book on any model and is again a model. Its states are a state below and a memory,
+-- as one number: (state below) × 65,536 + memory. The memory of the state arrived at is worked out at the
+-- state left.
 use Rattle.std.specs.Prelude.{ℕ, ◌+◌, ◌*◌, ◌/◌, ◌%◌, ◌^◌, Bool, true, if◌then◌else◌, ◌&&◌, List, [], ◌∷◌, map, length, pos, Some, None, Option, nat_le, nat_lt, sum_by, unsigned_abs}
 use Rattle.std.specs.Option.{is_none}
 use Rattle.formula.specs.declared.Node.{Node}
@@ -25,7 +26,9 @@ names_label_below labels _ = true
 abbrev pub amounts : List Wish → ℕ
 amounts ws = sum_by (λ w. unsigned_abs (amount w)) ws
 
--- the tests of a book, by the sizes of the model below: it names only labels that there are, and each of its wishes gets one more
+-- the tests of a book, by the sizes of the model below
+
+-- it names only labels that there are, and there is room for one more for each wish
 abbrev pub labels_fit : Sizes → Book → Bool
 labels_fit z b = all (names_label_below z.labels) b.nodes && nat_le (z.labels + length b.wishes) 24
 
@@ -36,7 +39,9 @@ abbrev pub span_fits : Sizes → Bool
 span_fits z = nat_le z.span (2 ^ 44)
 
 abbrev pub tests : Sizes → Book → List Row
-tests z b = (labels_fit z b, NoSuchLabel) ∷ ((bound_fits z b, BoundPassed) ∷ ((span_fits z, SpanPassed) ∷ []))
+tests z b =
+    (labels_fit z b, NoSuchLabel)
+    ∷ ((bound_fits z b, BoundPassed) ∷ ((span_fits z, SpanPassed) ∷ []))
 
 -- why a book cannot be laid on a model of these sizes
 abbrev pub refusal : Sizes → Book → Option Refusal
@@ -65,17 +70,23 @@ verdicts_at m b s = verdicts_in b (m.mask (under s)) (memory s)
 
 -- where an outcome of the model below leads, from the state s
 abbrev pub lifted : Model → Book → ℕ → Outcome → Outcome
-lifted m b s o = record { target = o.target * 65536 + memory_of b.items (verdicts_at m b s); weight = o.weight }
+lifted m b s o = record {
+  target = o.target * 65536 + memory_of b.items (verdicts_at m b s);
+  weight = o.weight;
+}
 
 abbrev pub layered : Model → Book → Model
 layered m b = record {
   start = m.start * 65536;
   state = is_layer_state m b;
   mask = λ s.
-      if is_layer_state m b s then m.mask (under s) + 2 ^ m.labels * bits_of_wishes b.wishes (verdicts_at m b s)
+      if is_layer_state m b s
+      then m.mask (under s) + 2 ^ m.labels * bits_of_wishes b.wishes (verdicts_at m b s)
       else 0;
   reward = λ s.
-      if is_layer_state m b s then earned (m.reward (under s)) b.wishes (verdicts_at m b s) else pos 0;
+      if is_layer_state m b s
+      then earned (m.reward (under s)) b.wishes (verdicts_at m b s)
+      else pos 0;
   site = λ s. if is_layer_state m b s then m.site (under s) else 0;
   offered = λ s a. is_layer_state m b s && m.offered (under s) a;
   outcomes = λ s a.

@@ -1,6 +1,6 @@
--- What a layer means along a history, by the truth lines alone: where it stands, what it shows and what it earns. The trace of a
--- history has at each position what the model below shows there.
-use Rattle.std.specs.Prelude.{◌≡◌, ℕ, zero, suc, ◌+◌, ◌-◌, ◌*◌, ◌^◌, ◌<◌, ◌≤◌, Bool, IsTrue, not, List, map, length, get_or, take, ℤ, slice_index_or}
+-- What a layer means along a history, by the truth lines alone: where it stands, what it shows and what it
+-- earns. The trace of a history has at each position what the model below shows there.
+use Rattle.std.specs.Prelude.{◌≡◌, ℕ, zero, suc, ◌+◌, ◌-◌, ◌*◌, ◌^◌, ◌<◌, ◌≤◌, Bool, IsTrue, not, List, map, length, take, ℤ, slice_index_or}
 use Rattle.formula.specs.declared.Item.{Item}
 use Rattle.formula.specs.declared.Item.TheVariants.{Held, Failed}
 use Rattle.formula.specs.declared.Node.{Node}
@@ -23,7 +23,8 @@ end_of h = length h - 1
 abbrev pub truths : List Node → Trace → ℕ → List Bool
 truths ns τ n = map (λ f. holds f τ n) (formulas ns)
 
--- the memory at a position: each bit tells the truth of its node one position earlier, or its falsity for a failed item; 0 at the start
+-- the memory at a position: each bit tells the truth of its node one position earlier, or its falsity for a
+-- failed item; 0 at the start
 abbrev pub memory_at : Book → Trace → ℕ → ℕ
 memory_at b τ zero = 0
 memory_at b τ (suc n) = memory_of b.items (truths b.nodes τ n)
@@ -32,12 +33,14 @@ abbrev pub code_over : (List ℕ → ℕ) → (List ℕ → ℕ) → Book → Li
 code_over code mask b h = code h * 65536 + memory_at b (trace_of mask h) (end_of h)
 
 abbrev pub mask_over : ℕ → (List ℕ → ℕ) → Book → List ℕ → ℕ
-mask_over labels mask b h = mask h + 2 ^ labels * bits_of_wishes b.wishes (truths b.nodes (trace_of mask h) (end_of h))
+mask_over labels mask b h =
+    mask h + 2 ^ labels * bits_of_wishes b.wishes (truths b.nodes (trace_of mask h) (end_of h))
 
 abbrev pub reward_over : (List ℕ → ℕ) → (List ℕ → ℤ) → Book → List ℕ → ℤ
-reward_over mask reward b h = earned (reward h) b.wishes (truths b.nodes (trace_of mask h) (end_of h))
+reward_over mask reward b h =
+    earned (reward h) b.wishes (truths b.nodes (trace_of mask h) (end_of h))
 
--- what a history shows on a layer of the book, by what it shows on the model below, which has so many labels
+-- what a history shows on a layer of the book, by what it shows on the model below and how many labels that has
 abbrev pub shown_over : ℕ → Book → Shown → Shown
 shown_over labels b sh = record {
   mask = mask_over labels sh.mask b;
@@ -58,14 +61,21 @@ tells ns τ (Failed i) j = not (holds (slice_index_or (formulas ns) i truth) τ 
 
 -- each memory bit tells the truth of one position earlier, and is 0 at the start
 abbrev pub MemoryTells : Type 0
-MemoryTells = (b : Book) → SoundBook b → (τ : Trace) (n k : ℕ) → k < length b.items → labelled (memory_at b τ n) k ≡ before n (tells b.nodes τ (slice_index_or b.items k (Held 0)))
+MemoryTells =
+    (b : Book) → SoundBook b → (τ : Trace) (n k : ℕ) → k < length b.items
+    → labelled (memory_at b τ n) k ≡ before n (tells b.nodes τ (slice_index_or b.items k (Held 0)))
 
 -- each wish has a bit above the labels below, set just where it holds at the end of the history
 abbrev pub WishesShow : Type 0
 WishesShow =
-    (b : Book) → SoundBook b → (labels : ℕ) (mask : List ℕ → ℕ) (h : List ℕ) (k : ℕ) (d : Wish) → mask h < 2 ^ labels → k < length b.wishes
-    → labelled (mask_over labels mask b h) (labels + k) ≡ holds (slice_index_or (formulas b.nodes) (get_or b.wishes k d).node truth) (trace_of mask h) (end_of h)
+    (b : Book) → SoundBook b → (labels : ℕ) (mask : List ℕ → ℕ) (h : List ℕ) (k : ℕ) (d : Wish)
+    → mask h < 2 ^ labels → k < length b.wishes
+    → labelled (mask_over labels mask b h) (labels + k)
+    ≡ holds (slice_index_or (formulas b.nodes) (slice_index_or b.wishes k d).node truth)
+        (trace_of mask h) (end_of h)
 
 -- the labels below keep their bits
 abbrev pub LabelsStay : Type 0
-LabelsStay = (b : Book) (labels : ℕ) (mask : List ℕ → ℕ) (h : List ℕ) (q : ℕ) → q < labels → labelled (mask_over labels mask b h) q ≡ labelled (mask h) q
+LabelsStay =
+    (b : Book) (labels : ℕ) (mask : List ℕ → ℕ) (h : List ℕ) (q : ℕ) → q < labels
+    → labelled (mask_over labels mask b h) q ≡ labelled (mask h) q

@@ -1,5 +1,6 @@
--- How a layer judges a state: from the label mask below and the remembered bits, the truth of each node in rising order; and what
--- it remembers on leaving. A bit tells whether the node of its item held, or failed, one position earlier; at the start all are 0.
+-- How a layer judges a state: from the label mask below and the remembered bits, the truth of each node in
+-- rising order; and what it remembers on leaving. A bit tells whether the node of its item held, or failed, one
+-- position earlier; at the start all are 0.
 use Rattle.std.specs.Prelude.{ℕ, ◌+◌, ◌*◌, Bool, true, false, if◌then◌else◌, not, ◌&&◌, ◌||◌, List, [], ◌∷◌, ◌++◌, length, ℤ, ◌+ℤ◌, ◌==◌, slice_index_or}
 use Rattle.std.specs.List.{position}
 use Rattle.std.specs.Option.{option_map_or}
@@ -37,14 +38,16 @@ verdict mask r i known (Not a) = not (slice_index_or known a false)
 verdict mask r i known (And a b) = slice_index_or known a false && slice_index_or known b false
 verdict mask r i known (Or a b) = slice_index_or known a false || slice_index_or known b false
 verdict mask r i known (Previous a) = r (Held a)
-verdict mask r i known (Since a b) = (slice_index_or known a false && r (Held i)) || slice_index_or known b false
+verdict mask r i known (Since a b) =
+    (slice_index_or known a false && r (Held i)) || slice_index_or known b false
 verdict mask r i known (Always a) = not (r (Failed i)) && slice_index_or known a false
 verdict mask r i known (Once a) = r (Held i) || slice_index_or known a false
 
 -- the verdicts on further nodes, after those on the nodes before them
 abbrev pub verdicts_from : ℕ → (Item → Bool) → List Bool → List Node → List Bool
 verdicts_from mask r known [] = known
-verdicts_from mask r known (n ∷ ns) = verdicts_from mask r (known ++ (verdict mask r (length known) known n ∷ [])) ns
+verdicts_from mask r known (n ∷ ns) =
+    verdicts_from mask r (known ++ (verdict mask r (length known) known n ∷ [])) ns
 
 abbrev pub verdicts : ℕ → (Item → Bool) → List Node → List Bool
 verdicts mask r ns = verdicts_from mask r [] ns

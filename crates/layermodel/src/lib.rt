@@ -1,5 +1,6 @@
-// What a layer means: a wish book laid on any model is again a model. Here are its laws, that it unfolds the ground model as the truth
-// lines say, and its answers in a state: whether the book fits, the verdicts on its nodes, what is remembered, and the wishes that hold.
+//! What a layer means: a wish book laid on any model is again a model. Here are its laws, that it unfolds the
+//! ground model as the truth lines say, and its answers: whether the book fits, and in a state the verdicts on
+//! its nodes, what is remembered, and the wishes that hold.
 
 #![tactic(auto)]
 

@@ -44,7 +44,7 @@ fn labels_fit(sizes: Sizes, book: &WishBook) -> bool
         && sizes.labels as u64 + book.wishes().len() as u64 <= LABELS
 }
 
-// The sizes of all amounts together.
+/// The sizes of all amounts together.
 pub fn amounts(book: &WishBook) -> u32
     ensures { result ≡ amounts_of (contents book.now).wishes }
 {
@@ -54,7 +54,7 @@ pub fn amounts(book: &WishBook) -> u32
         .sum()
 }
 
-// The book can be laid, or why not: labels, then the bound, then the span.
+/// The book can be laid, or why not: labels, then the bound, then the span.
 pub fn fit(sizes: Sizes, book: &WishBook) -> Result<(), Refusal>
     ensures { result_err result ≡ refusal sizes (contents book.now) }
 {

@@ -1,4 +1,4 @@
-// What the truths in a state come to: the memory of the state arrived at, and the bits of the wishes.
+// What the truths in a state come to: the memory of the state arrived at, and the wish bits.
 ghost use Rattle.std.specs.Prelude.{◌≡◌, ◌+◌, ◌*◌, ◌^◌, ◌<◌, ◌≤◌, Bool, length};
 ghost use Rattle.wishbook.specs.Contents.{contents};
 ghost use Rattle.layermodel.specs.Verdicts.{bit as bit_of, bits_of, item_held, memory_of, bits_of_wishes};
@@ -42,14 +42,14 @@ fn number<T: Copy, F: Fn(T) -> bool>(items: &[T], holds: F) -> u64
     bits
 }
 
-// The memory of the state arrived at, from the truths in the state left; item 0 is the lowest bit.
+/// The memory of the state arrived at, from the truths in the state left; item 0 is the lowest bit.
 pub fn remember(book: &WishBook, truths: &[bool]) -> u64
     ensures { result ≡ memory_of (contents book.now).items truths.now }
 {
     number(book.items(), |item| item_holds(item, truths))
 }
 
-// One bit for each wish that holds; wish 0 is the lowest bit.
+/// One bit for each wish that holds; wish 0 is the lowest bit.
 pub fn wish_bits(book: &WishBook, truths: &[bool]) -> u32
     ensures { result ≡ bits_of_wishes (contents book.now).wishes truths.now }
 {

@@ -1,4 +1,5 @@
-// The verdicts on the nodes of a book in a state: from the label mask and what is recalled, the truth of each in rising order.
+// The verdicts on the nodes of a book in a state: from the label mask and what is recalled, the truth of each
+// in rising order.
 ghost use Rattle.std.specs.Prelude.{◌≡◌, ◌<◌, ◌≤◌, false, length, take, slice_index_or};
 ghost use Rattle.wishbook.specs.Contents.{contents};
 ghost use Rattle.layermodel.specs.Verdicts.{verdict as verdict_of, verdicts};
@@ -10,7 +11,7 @@ use formula::{Item, Node};
 use truth::shows;
 use wishbook::WishBook;
 
-// What a table of truths has at the number of a node, false past its end.
+/// What a table of truths has at the number of a node, false past its end.
 pub fn at(table: &[bool], node: u8) -> bool
     ensures { result ≡ slice_index_or table.now node false }
 {
@@ -37,7 +38,8 @@ fn verdict(node: Node, mask: u32, recalled: &Recalled<'_>, before: &[bool]) -> b
     }
 }
 
-// The truth of each of at most 128 nodes. That it is a table filled in rising order is fixed (docs/DECISIONS.md).
+// The truth of each of at most 128 nodes. That it is a table filled in rising order is fixed
+// (docs/DECISIONS.md).
 fn truths(nodes: &[Node], mask: u32, recalled: &Recalled<'_>) -> [bool; 128]
     requires { length nodes.now ≤ 128 }
     ensures { take (length nodes.now) result ≡ verdicts mask (recalled_by recalled.now) nodes.now }
@@ -49,7 +51,7 @@ fn truths(nodes: &[Node], mask: u32, recalled: &Recalled<'_>) -> [bool; 128]
     known
 }
 
-// The truth of each node of a book in a state, from the label mask and the remembered bits.
+/// The truth of each node of a book in a state, from the label mask and the remembered bits.
 pub fn judge(book: &WishBook, mask: u32, memory: u64) -> [bool; 128]
     ensures { take (length (contents book.now).nodes) result ≡
         verdicts_in (contents book.now) mask memory }
