@@ -1,6 +1,2 @@
-pub mod Recalling
-pub mod VerdictsRight
-pub mod Counting
+pub mod Earning
 pub mod Refusing
-pub mod Unfolds
-pub mod Bits

@@ -1,18 +1,15 @@
 -- What a layer means where its book fits, and where it does not.
 use Rattle.std.proofs.Common.{◌≡◌, true, Some, None, Option, Ok, Err, Result, IfOk, MatchOption, sym, ap, ◌∙◌, subst}
-use Rattle.std.specs.Option.{option_map, is_none}
+use Rattle.std.specs.Option.{option_map}
 use Rattle.std.specs.Result.{result_ok, result_err}
 use Rattle.std.proofs.lemmas.Bool.{cond-true, cond-false}
 use Rattle.model.specs.Models.{Model, sizes_of}
 use Rattle.refusal.specs.declared.Refusal.{Refusal}
 use Rattle.wishbook.specs.declared.book.WishBook.{WishBook}
-use Rattle.wishbook.specs.Book.{Book}
 use Rattle.wishbook.specs.Contents.{contents}
-use Rattle.layer.specs.Layered.{refusal, fits, layered, over}
+use Rattle.layermodel.proofs.Lawfulness.{fit_is}
+use Rattle.layermodel.specs.Layered.{refusal, fits, layered, over}
 use Rattle.layer.specs.InMemory.{laid_book}
-
-pub fit_is : (m : Model) (b : Book) (o : Option Refusal) → o ≡ refusal (sizes_of m) b → fits m b ≡ is_none o
-fit_is m b o e = ap is_none (sym e)
 
 -- a layer x of the book w on y, if it was made: `own` is the book, and o the layer, if there is one
 module _ {X Y : Type 0} (below : X → Y) (book : X → WishBook) (mean : Y → Model) (y : Y) (w : WishBook) where

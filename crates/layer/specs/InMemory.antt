@@ -1,12 +1,18 @@
 -- What a layer in memory means.
-use Rattle.std.specs.Prelude.{◌≡◌, ℕ, ◌+◌, ◌*◌, IsTrue, if◌then◌else◌, Some, None, Option}
+use Rattle.std.specs.Prelude.{◌≡◌, ℕ, ◌+◌, ◌*◌, IsTrue, IsFalse, if◌then◌else◌, Some, None, Option, MatchOption}
 use Rattle.std.specs.Option.{option_map}
 use Rattle.model.specs.declared.Outcome.{Outcome}
 use Rattle.model.specs.Models.{Model}
 use Rattle.wishbook.specs.Book.{Book}
 use Rattle.wishbook.specs.Contents.{contents}
 use Rattle.layer.specs.declared.layers.Layer.{Layer}
-use Rattle.layer.specs.Layered.{fits, memory, layered, over}
+use Rattle.layermodel.specs.Layered.{fits, under, memory, is_layer_state, layered, over}
+
+-- a number taken apart, the state below and the memory; none where it is no state of the layer
+abbrev pub IsApart : Model → Book → ℕ → Option (ℕ × ℕ) → Type 0
+IsApart m b s o =
+    MatchOption o (IsFalse (is_layer_state m b s))
+    (λ p. IsTrue (is_layer_state m b s) × (p.0 ≡ under s) × (p.1 ≡ memory s))
 
 -- an outcome of the model below, with the memory beside its target
 abbrev pub moved : ℕ → Outcome → Outcome

@@ -1,9 +1,9 @@
 // A wish book in a state: the label mask there, the truth of each of its nodes, and what the state comes to.
-// It is one book in one state. `judge`, `remember` and `wish_bits`, which it hands on to, answer for truths of any length.
+// It is one book in one state. `judge`, `remember` and `wish_bits`, which it hands on to, answer for truths of
+// any length.
 ghost use Rattle.std.specs.Prelude.{◌≡◌, length};
 
-use crate::remembering::{remember, wish_bits};
-use crate::verdicts::{at, judge};
+use layermodel::{at, judge, remember, wish_bits};
 use wishbook::WishBook;
 
 #[derive(Drop)]
@@ -18,8 +18,8 @@ impl<'a> BookAt<'a> {
     ghost use Rattle.std.specs.Prelude.{◌<◌, ◌≤◌, unsigned_abs};
     ghost use Rattle.wishbook.specs.Contents.{contents};
     ghost use Rattle.layer.specs.BookAt.{known};
-    ghost use Rattle.layer.specs.Verdicts.{memory_of, bits_of_wishes, earned};
-    ghost use Rattle.layer.specs.Layered.{verdicts_in};
+    ghost use Rattle.layermodel.specs.Verdicts.{memory_of, bits_of_wishes, earned};
+    ghost use Rattle.layermodel.specs.Layered.{verdicts_in};
 
     pub(crate) fn new(book: &'a WishBook, mask: u32, memory: u64) -> BookAt<'a>
         ensures book { result.book.now ≡ book.now }
@@ -55,7 +55,8 @@ impl<'a> BookAt<'a> {
         wish_bits(self.book, self.known())
     }
 
-    // A sum, and the amounts of the wishes that hold. A `for` over the book's wishes: this form is fixed, see docs/DECISIONS.md.
+    // A sum, and the amounts of the wishes that hold. A `for` over the book's wishes: this form is fixed, see
+    // docs/DECISIONS.md.
     pub(crate) fn earned(&self, sum: i32) -> i32
         requires { unsigned_abs sum ≤ 2000 }
         ensures { result ≡ earned sum (contents self.now.book.now).wishes (known self.now) }

@@ -1,19 +1,18 @@
 // A wish book on a model that it fits, which is again a model.
-ghost use Rattle.std.specs.Prelude.{◌≡◌, ℕ, ◌+◌, ◌*◌, ◌^◌, ◌<◌, ◌≤◌, true, false, IsTrue, IfOk, MatchOption, map, length, slice_index_or};
+ghost use Rattle.std.specs.Prelude.{◌≡◌, ◌+◌, ◌*◌, ◌^◌, ◌<◌, ◌≤◌, IsTrue, IfOk, map};
+ghost use Rattle.std.specs.List.{All};
 ghost use Rattle.std.specs.Result.{result_err};
 ghost use Rattle.bounded.specs.Listed.{listed};
-ghost use Rattle.model.specs.declared.Outcome.{Outcome as Way};
 ghost use Rattle.wishbook.specs.Contents.{contents};
-ghost use Rattle.layer.specs.Books.{few_items};
-ghost use Rattle.layer.specs.BookAt.{IsBookAt};
-ghost use Rattle.layer.specs.Layered.{fits, is_layer_state, layered, memory as memory_in, refusal as refusal_of, under};
-ghost use Rattle.layer.specs.Lawfulness.{layered_lawful};
-ghost use Rattle.layer.specs.InMemory.{moved};
+ghost use Rattle.layermodel.proofs.Books.{few_items};
+ghost use Rattle.layer.specs.BookAt.{IsBookIn};
+ghost use Rattle.layermodel.specs.Layered.{fits, layered, refusal as refusal_of};
+ghost use Rattle.layermodel.proofs.Lawfulness.{layered_lawful};
+ghost use Rattle.layer.specs.InMemory.{IsApart, moved};
 ghost use Rattle.model.specs.Models.{sizes_of};
 
-use crate::amounts::amounts;
 use crate::book_at::BookAt;
-use crate::limits::fit;
+use layermodel::{amounts, fit};
 use model::{Outcome, Outcomes, SiteModel, Sizes};
 use refusal::Refusal;
 use wishbook::WishBook;
@@ -33,7 +32,7 @@ pub(crate) struct Fitted<'a, M: SiteModel> {
 impl<'a, M: SiteModel> Fitted<'a, M> {
     // The layer, or why the book cannot be laid.
     pub(crate) fn new(below: &'a M, book: &'a WishBook) -> Result<Fitted<'a, M>, Refusal>
-        ensures parts { IfOk result (λ o. (o.below.now ≡ below.now) × (o.book.now ≡ book.now)) }
+        ensures parts { IfOk result (λ f. (f.below.now ≡ below.now) × (f.book.now ≡ book.now)) }
         ensures refusal { result_err result ≡
             refusal_of (sizes_of (M.SiteModel.meaning below.now)) (contents book.now) }
     {
@@ -42,9 +41,11 @@ impl<'a, M: SiteModel> Fitted<'a, M> {
         Ok(Fitted { below, book, sizes })
     }
 
-    // The state below and the memory, where `s` is a state of the layer. A pair, which each caller takes apart at once.
+    // The state below and the memory, where `s` is a state of the layer. A pair, which each caller takes
+    // apart at once.
     fn apart(&self, s: u64) -> Option<(u64, u64)>
-        ensures { MatchOption result (is_layer_state (M.SiteModel.meaning self.now.below.now) (contents self.now.book.now) s ≡ false) (λ p. (is_layer_state (M.SiteModel.meaning self.now.below.now) (contents self.now.book.now) s ≡ true) × (p.0 ≡ under s) × (p.1 ≡ memory_in s)) }
+        ensures { IsApart (M.SiteModel.meaning self.now.below.now)
+            (contents self.now.book.now) s result }
     {
         let (below, memory) = (s / MEMORIES, s % MEMORIES);
         if self.below.is_state(below) && memory < 1 << self.book.items().len() {
@@ -56,7 +57,7 @@ impl<'a, M: SiteModel> Fitted<'a, M> {
 
     // The state below, and the book there, where `s` is a state of the layer.
     fn book_at(&self, s: u64) -> Option<(u64, BookAt<'_>)>
-        ensures { MatchOption result (is_layer_state (M.SiteModel.meaning self.now.below.now) (contents self.now.book.now) s ≡ false) (λ p. (is_layer_state (M.SiteModel.meaning self.now.below.now) (contents self.now.book.now) s ≡ true) × (p.0 ≡ under s) × IsBookAt (M.SiteModel.meaning self.now.below.now) self.now.book.now s p.1) }
+        ensures { IsBookIn (M.SiteModel.meaning self.now.below.now) self.now.book.now s result }
     {
         let (below, memory) = self.apart(s)?;
         let mask = self.below.mask(below);
@@ -73,10 +74,10 @@ fn join(mask: u32, labels: u32, bits: u32) -> u32
     mask + (bits << labels)
 }
 
-// The outcomes with a memory beside each target. Nothing collects into a bounded list, and a public map over a closure would ask
-// that the closure may be called.
+// The outcomes with a memory beside each target. Nothing collects into a bounded list, and a public map over
+// a closure would ask that the closure may be called.
 fn lift(ways: Outcomes, memory: u64) -> Outcomes
-    requires low { (j : ℕ) (d : Way) → j < length (listed ways) → (slice_index_or (listed ways) j d).target < 2 ^ 44 }
+    requires low { All (λ o. o.target < 2 ^ 44) (listed ways) }
     requires small { memory < 65536 }
     ensures { listed result ≡ map (moved memory) (listed ways) }
 {
@@ -91,9 +92,10 @@ fn lift(ways: Outcomes, memory: u64) -> Outcomes
 }
 
 impl<'a, M: SiteModel> SiteModel for Fitted<'a, M> {
-    ghost meaning = { λ o. layered (M.SiteModel.meaning o.below.now) (contents o.book.now) };
+    ghost meaning = { λ f. layered (M.SiteModel.meaning f.below.now) (contents f.book.now) };
 
-    ghost lawful = { λ o. layered_lawful (M.SiteModel.meaning o.below.now) (contents o.book.now) (M.SiteModel.lawful o.below.now) (few_items o.book.now) o.fit };
+    ghost lawful = { λ f. layered_lawful (M.SiteModel.meaning f.below.now) (contents f.book.now)
+        (M.SiteModel.lawful f.below.now) (few_items f.book.now) f.fit };
 
     fn start(&self) -> u64 {
         self.below.start() * MEMORIES

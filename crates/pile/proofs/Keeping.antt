@@ -5,9 +5,9 @@ use Rattle.model.specs.Histories.{final, by_itself, along, Unfolds}
 use Rattle.model.proofs.Paths.{final-push, history_state, one_path_above}
 use Rattle.model.specs.declared.Outcome.{Outcome}
 use Rattle.model.specs.Models.{Model, Lawful, Ground}
-use Rattle.layer.specs.Layered.{fits, layered}
-use Rattle.layer.specs.Records.{code_over, shown_over}
-use Rattle.layer.proofs.Unfolds.{layer_unfolds}
+use Rattle.layermodel.specs.Layered.{fits, layered}
+use Rattle.layermodel.specs.Records.{code_over, shown_over}
+use Rattle.layermodel.proofs.Unfolds.{layer_unfolds}
 use Rattle.pile.specs.Piles.{Floor, bare, wishes, floor_over, piled, Piling, piling, Place, on_ground, with_floor, with_floors, SoundFloor, SoundFloors, Laid, place_on, shown_on, Keeps}
 
 map_keeps : (h : List ℕ) (os : List Outcome) → map (along final h) os ≡ os

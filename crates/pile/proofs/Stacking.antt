@@ -11,9 +11,9 @@ use Rattle.refusal.specs.declared.Refusal.{Refusal}
 use Rattle.wishbook.specs.declared.book.WishBook.{WishBook}
 use Rattle.wishbook.specs.Book.{Book}
 use Rattle.wishbook.specs.Contents.{contents}
-use Rattle.layer.specs.Lawfulness.{room}
-use Rattle.layer.specs.Layered.{refusal, fits, layered, over}
-use Rattle.layer.proofs.Refusing.{fit_is}
+use Rattle.layermodel.proofs.Lawfulness.{room}
+use Rattle.layermodel.specs.Layered.{refusal, fits, layered, over}
+use Rattle.layermodel.proofs.Lawfulness.{fit_is}
 use Rattle.pile.specs.Piles.{wishes, floor_over, piled}
 use Rattle.pile.specs.Pushing.{floor_in, over_in}
 use Rattle.pile.specs.Stacks.{floor_refusal, books_as_floors, floor_at, refusal_at, AllLaid, IsFirstRefused}

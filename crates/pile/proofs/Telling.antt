@@ -19,14 +19,14 @@ use Rattle.words.specs.Tests.{all}
 use Rattle.wishbook.specs.Book.{Book}
 use Rattle.wishlayout.specs.declared.Wish.{Wish}
 use Rattle.wishlayout.specs.Wishes.{amount, good_wish}
-use Rattle.layer.specs.Verdicts.{item_held, wish_held, earned}
-use Rattle.layer.specs.Lawfulness.{memory_packed, over_lawful}
-use Rattle.layer.specs.Layered.{fits, under, memory, layered, over}
-use Rattle.layer.specs.Records.{trace_of, end_of, truths, memory_at, code_over, shown_over, tells, SoundBook}
-use Rattle.layer.specs.Sizes.{bits_small}
-use Rattle.layer.proofs.Bits.{memory_tells, wishes_show, labels_stay}
+use Rattle.layermodel.specs.Verdicts.{item_held, wish_held, earned}
+use Rattle.layermodel.proofs.Lawfulness.{memory_packed, over_lawful}
+use Rattle.layermodel.specs.Layered.{fits, under, memory, layered, over}
+use Rattle.layermodel.specs.Records.{trace_of, end_of, truths, memory_at, code_over, shown_over, tells, SoundBook}
+use Rattle.layermodel.proofs.Sizes.{bits_small}
+use Rattle.layermodel.proofs.Bits.{memory_tells, wishes_show, labels_stay}
 use Rattle.pile.specs.Piles.{Floor, bare, wishes, floor_over, piled, Piling, piling, Place, on_ground, with_floor, with_floors, SoundFloor, SoundFloors, Laid}
-use Rattle.layer.proofs.Unfolds.{layer_unfolds}
+use Rattle.layermodel.proofs.Unfolds.{layer_unfolds}
 use Rattle.pile.specs.Telling.{below_floor, state_below, memory_of_floor, masks_below, formula_at, Told, OneEarlier, wish_holds, FloorTells, BitsTell}
 use Rattle.pile.proofs.Keeping.{pile_keeps, laid_is}
 

@@ -5,7 +5,7 @@ use Rattle.std.specs.Option.{option_map}
 use Rattle.model.specs.Models.{Model}
 use Rattle.wishbook.specs.declared.book.WishBook.{WishBook}
 use Rattle.wishbook.specs.Contents.{contents}
-use Rattle.layer.specs.Layered.{over}
+use Rattle.layermodel.specs.Layered.{over}
 use Rattle.pile.specs.declared.floor.Floor.{Floor as Slab}
 use Rattle.pile.specs.declared.floor.Floor.TheVariants.{Bare}
 use Rattle.pile.specs.Piles.{floor_over, piled, Piling}

@@ -7,9 +7,9 @@ use Rattle.model.specs.Models.{Model, Lawful, sizes_of}
 use Rattle.refusal.specs.declared.Refusal.{Refusal}
 use Rattle.wishbook.specs.declared.book.WishBook.{WishBook}
 use Rattle.wishbook.specs.Contents.{contents}
-use Rattle.layer.specs.Lawfulness.{room}
-use Rattle.layer.specs.Layered.{refusal, fits, layered, over}
-use Rattle.layer.proofs.Refusing.{fit_is}
+use Rattle.layermodel.proofs.Lawfulness.{room}
+use Rattle.layermodel.specs.Layered.{refusal, fits, layered, over}
+use Rattle.layermodel.proofs.Lawfulness.{fit_is}
 use Rattle.pile.specs.Piles.{Floor, wishes, floor_over, piled}
 use Rattle.pile.specs.Pushing.{piled_push}
 use Rattle.pile.specs.Skipping.{laid_books, present, JudgedSoFar, Judges}

@@ -4,8 +4,8 @@ use Rattle.std.specs.Prelude.{◌≡◌, ℕ, if◌then◌else◌, List, [], ◌
 use Rattle.model.specs.Histories.{final, Shown, by_itself, Unfolds, OnePathAbove}
 use Rattle.model.specs.Models.{Model, Lawful, Ground}
 use Rattle.wishbook.specs.Book.{Book}
-use Rattle.layer.specs.Layered.{fits, over}
-use Rattle.layer.specs.Records.{code_over, shown_over, SoundBook}
+use Rattle.layermodel.specs.Layered.{fits, over}
+use Rattle.layermodel.specs.Records.{code_over, shown_over, SoundBook}
 
 -- a floor: nothing, or a wish book
 pub data Floor : Type 0 where

@@ -5,8 +5,8 @@ use Rattle.std.specs.Option.{option_map}
 use Rattle.model.specs.Models.{Model, Lawful, Ground}
 use Rattle.wishbook.specs.declared.book.WishBook.{WishBook}
 use Rattle.wishbook.specs.Contents.{contents}
-use Rattle.layer.specs.Books.{kept}
-use Rattle.layer.specs.Layered.{over}
+use Rattle.layermodel.proofs.Books.{kept}
+use Rattle.layermodel.specs.Layered.{over}
 use Rattle.pile.specs.Piles.{Floor, bare, wishes, floor_over, piled, Piling, SoundFloor, SoundFloors, Laid}
 
 -- the floor of a layer: its book, if it has one

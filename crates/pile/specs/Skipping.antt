@@ -6,7 +6,7 @@ use Rattle.model.specs.Models.{Model}
 use Rattle.refusal.specs.declared.Refusal.{Refusal}
 use Rattle.wishbook.specs.declared.book.WishBook.{WishBook}
 use Rattle.wishbook.specs.Contents.{contents}
-use Rattle.layer.specs.Layered.{fits, over}
+use Rattle.layermodel.specs.Layered.{fits, over}
 use Rattle.pile.specs.Piles.{piled}
 use Rattle.pile.specs.Pushing.{floor_in}
 use Rattle.pile.specs.Stacks.{Stack, books_of, floor_refusal, why_not, books_as_floors}

@@ -6,7 +6,7 @@ use Rattle.refusal.specs.declared.Refusal.{Refusal}
 use Rattle.wishbook.specs.declared.book.WishBook.{WishBook}
 use Rattle.wishbook.specs.Contents.{contents}
 use Rattle.layer.specs.declared.layers.Layer.{Layer}
-use Rattle.layer.specs.Layered.{refusal}
+use Rattle.layermodel.specs.Layered.{refusal}
 use Rattle.layer.specs.InMemory.{meaning_of}
 use Rattle.pile.specs.declared.footing.Footing.{Footing}
 use Rattle.pile.specs.declared.laying.Unlaid.{Unlaid}

@@ -1,6 +1,6 @@
 // What is promised of every pile.
 ghost use Rattle.std.specs.Prelude.{◌≡◌, [], ◌∷◌};
-ghost use Rattle.layer.specs.Records.{MemoryTells, WishesShow, LabelsStay};
+ghost use Rattle.layermodel.specs.Records.{MemoryTells, WishesShow, LabelsStay};
 ghost use Rattle.pile.specs.Piles.{place_on, piled, Keeps};
 ghost use Rattle.pile.specs.Telling.{BitsTell};
 

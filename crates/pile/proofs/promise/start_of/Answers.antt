@@ -1,5 +1,5 @@
 use Rattle.std.proofs.Common.{sym, ap, ◌∙◌}
-use Rattle.layer.proofs.Bits.{memory_tells, wishes_show, labels_stay}
+use Rattle.layermodel.proofs.Bits.{memory_tells, wishes_show, labels_stay}
 use Rattle.pile.proofs.Keeping.{laid_keeps}
 use Rattle.pile.proofs.Telling.{bits_tell}
 use Rattle.pile.proofs.promise.start_of.Goals as goal

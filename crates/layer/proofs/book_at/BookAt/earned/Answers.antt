@@ -1,6 +1,6 @@
 use Rattle.std.proofs.Common.{◌≤◌, length, sym, ap, arith}
-use Rattle.layer.specs.Books.{few_wishes}
-use Rattle.layer.proofs.Counting.{earning_more, earning_past}
+use Rattle.layermodel.proofs.Books.{few_wishes}
+use Rattle.layer.proofs.Earning.{earning_more, earning_past}
 use Rattle.layer.proofs.book_at.BookAt.earned.Goals as goal
 use Rattle.layer.proofs.book_at.BookAt.earned.Goals.{then-at, else-at}
 

@@ -1,5 +1,5 @@
 -- The wishes that are left add what all of them add; the sum stays small.
-use Rattle.layer.proofs.Counting.{Earning}
+use Rattle.layer.proofs.Earning.{Earning}
 use Rattle.layer.proofs.book_at.BookAt.earned.Given as goal
 
 abbrev pub invariant-loop-wish : goal.invariant-loop-wish

@@ -1,8 +1,8 @@
 use Rattle.std.proofs.Common.{arith}
 use Rattle.wishbook.specs.Contents.{contents}
-use Rattle.layer.specs.Books.{few_items}
-use Rattle.layer.specs.Verdicts.{item_held}
-use Rattle.layer.specs.Sizes.{bits_small}
+use Rattle.layermodel.proofs.Books.{few_items}
+use Rattle.layermodel.specs.Verdicts.{item_held}
+use Rattle.layermodel.proofs.Sizes.{bits_small}
 use Rattle.layer.proofs.book_at.BookAt.memory.Goals as goal
 
 pub returns-clause-small : goal.returns-clause-small

@@ -2,9 +2,9 @@ use Rattle.std.proofs.Common.{◌≡◌, ◌+◌, ◌*◌, ◌^◌, ◌<◌, sym
 use Rattle.wishbook.specs.declared.book.WishBook.{WishBook}
 use Rattle.wishbook.specs.Contents.{contents}
 use Rattle.layer.specs.BookAt.{known}
-use Rattle.layer.specs.Verdicts.{bits_of_wishes}
-use Rattle.layer.specs.Layered.{under}
-use Rattle.layer.specs.Lawfulness.{mask_room}
+use Rattle.layermodel.specs.Verdicts.{bits_of_wishes}
+use Rattle.layermodel.specs.Layered.{under}
+use Rattle.layermodel.proofs.Lawfulness.{mask_room}
 use Rattle.layer.proofs.fitted.FittedSiteModel.mask.Goals as goal
 
 pub join-requires-clause-room : goal.join-requires-clause-room

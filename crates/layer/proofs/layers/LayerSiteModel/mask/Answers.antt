@@ -1,7 +1,7 @@
 use Rattle.std.proofs.Common.{sym, ap, ◌∙◌}
 use Rattle.model.specs.Models.{Model}
 use Rattle.wishbook.specs.Contents.{contents}
-use Rattle.layer.specs.Layered.{layered}
+use Rattle.layermodel.specs.Layered.{layered}
 use Rattle.layer.proofs.layers.LayerSiteModel.mask.Goals as goal
 
 pub returns-in-Some : goal.returns-in-Some
