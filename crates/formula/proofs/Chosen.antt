@@ -1,8 +1,8 @@
 -- The items that are kept: which they are, and that they rise.
 use Rattle.std.proofs.Common.{◌≡◌, ℕ, zero, suc, ◌+◌, ◌-◌, ◌*◌, ◌<◌, ◌≤◌, Bool, true, false, cond, ◌&&◌, ◌||◌, ◌⊎◌, List, [], ◌∷◌, ◌++◌, length, get_or, sym, refl, ap, ◌∙◌, subst, inl, inr, arith, rules}
-use Rattle.std.specs.List.{ContainsAt as Has}
+use Rattle.std.specs.List.{Contains}
 use Rattle.std.proofs.lemmas.List.{length-append, get_or_append_left, get_or-append_right}
-use Rattle.std.proofs.ByRecursion.{has_get_or, has_append_left, has_append_right, has_append_cases}
+use Rattle.std.proofs.lemmas.List.Elements.{Contains-get_or, Contains-append_left, Contains-append_right, Contains-append_cases}
 use Rattle.std.proofs.lemmas.Bool.{both_ways, cases_lt, and_parts, and_from, or_cases, or_left, or_right, eqb-true, eq-eqb}
 use Rattle.formula.specs.declared.Node.{Node}
 use Rattle.formula.specs.declared.Node.TheVariants.{Label, True, Not, And, Or, Previous, Since, Always, Once}
@@ -11,13 +11,13 @@ use Rattle.formula.specs.declared.Item.TheVariants.{Held, Failed}
 use Rattle.formula.specs.Items.{lasting, is_always, looks_back, back_below, items_at, items_below, kept_items, rank, Remembered, Selected}
 
 -- one item, where the test says so
-has_one : (b : Bool) (x y : Item) → Has (cond b (x ∷ []) []) y → (b ≡ true) × (x ≡ y)
-has_one true x y (zero, l, at) = (refl, at x)
+has_one : (b : Bool) (x y : Item) → Contains (cond b (x ∷ []) []) y → (b ≡ true) × (x ≡ y)
+has_one true x y (zero, l, at) = (refl, at)
 has_one true x y (suc k, l, at) = absurd (omega arith)
 has_one false x y (k, l, at) = absurd (omega arith)
 
-one_has : (b : Bool) (x : Item) → b ≡ true → Has (cond b (x ∷ []) []) x
-one_has true x e = (0, omega arith, λ d. refl)
+one_has : (b : Bool) (x : Item) → b ≡ true → Contains (cond b (x ∷ []) []) x
+one_has true x e = (0, omega arith, refl)
 one_has false x e = absurd (both_ways false refl e)
 
 held_is : (i j : ℕ) → Held i ≡ Held j → i ≡ j
@@ -102,43 +102,43 @@ module _ (nodes : List Node) (used : List Bool) where
   failed_to i u e = search rules
 
   -- an item of node k
-  at_cases : (k : ℕ) (x : Item) → Has (items_at nodes used k) x → ((held_test k ≡ true) × (Held k ≡ x)) ⊎ ((failed_test k ≡ true) × (Failed k ≡ x))
+  at_cases : (k : ℕ) (x : Item) → Contains (items_at nodes used k) x → ((held_test k ≡ true) × (Held k ≡ x)) ⊎ ((failed_test k ≡ true) × (Failed k ≡ x))
   at_cases k x had =
-      elim (has_append_cases (cond (held_test k) (Held k ∷ []) []) (cond (failed_test k) (Failed k ∷ []) []) x (subst (λ l. Has l x) (items_at_is k) had)) [
+      elim (Contains-append_cases (cond (held_test k) (Held k ∷ []) []) (cond (failed_test k) (Failed k ∷ []) []) x (subst (λ l. Contains l x) (items_at_is k) had)) [
         | inl h ↦ inl (has_one (held_test k) (Held k) x h)
         | inr f ↦ inr (has_one (failed_test k) (Failed k) x f)
       ]
 
-  at_held : (k : ℕ) → held_test k ≡ true → Has (items_at nodes used k) (Held k)
+  at_held : (k : ℕ) → held_test k ≡ true → Contains (items_at nodes used k) (Held k)
   at_held k h =
-      subst (λ l. Has l (Held k)) (sym (items_at_is k))
-      (has_append_left (cond (held_test k) (Held k ∷ []) []) (cond (failed_test k) (Failed k ∷ []) []) (Held k) (one_has (held_test k) (Held k) h))
+      subst (λ l. Contains l (Held k)) (sym (items_at_is k))
+      (Contains-append_left (cond (held_test k) (Held k ∷ []) []) (cond (failed_test k) (Failed k ∷ []) []) (Held k) (one_has (held_test k) (Held k) h))
 
-  at_failed : (k : ℕ) → failed_test k ≡ true → Has (items_at nodes used k) (Failed k)
+  at_failed : (k : ℕ) → failed_test k ≡ true → Contains (items_at nodes used k) (Failed k)
   at_failed k h =
-      subst (λ l. Has l (Failed k)) (sym (items_at_is k))
-      (has_append_right (cond (held_test k) (Held k ∷ []) []) (cond (failed_test k) (Failed k ∷ []) []) (Failed k) (one_has (failed_test k) (Failed k) h))
+      subst (λ l. Contains l (Failed k)) (sym (items_at_is k))
+      (Contains-append_right (cond (held_test k) (Held k ∷ []) []) (cond (failed_test k) (Failed k ∷ []) []) (Failed k) (one_has (failed_test k) (Failed k) h))
 
   -- an item of a node below k
-  below_cases : (k : ℕ) (x : Item) → Has (items_below nodes used k) x → (i : ℕ) × (i < k) × Has (items_at nodes used i) x
+  below_cases : (k : ℕ) (x : Item) → Contains (items_below nodes used k) x → (i : ℕ) × (i < k) × Contains (items_at nodes used i) x
   below_cases zero x (j, l, at) = absurd (omega arith)
   below_cases (suc k) x had =
-      elim (has_append_cases (items_below nodes used k) (items_at nodes used k) x had) [
+      elim (Contains-append_cases (items_below nodes used k) (items_at nodes used k) x had) [
         | inl low ↦ let r = below_cases k x low in (r.0, omega (arith, r.1), r.2)
         | inr here ↦ (k, omega arith, here)
       ]
 
-  below_has : (k i : ℕ) (x : Item) → i < k → Has (items_at nodes used i) x → Has (items_below nodes used k) x
+  below_has : (k i : ℕ) (x : Item) → i < k → Contains (items_at nodes used i) x → Contains (items_below nodes used k) x
   below_has zero i x l had = absurd (omega arith)
   below_has (suc k) i x l had =
       elim (cases_lt i k) [
-        | inl low ↦ has_append_left (items_below nodes used k) (items_at nodes used k) x (below_has k i x low had)
+        | inl low ↦ Contains-append_left (items_below nodes used k) (items_at nodes used k) x (below_has k i x low had)
         | inr past ↦
             let at : i ≡ k = omega arith in
-            has_append_right (items_below nodes used k) (items_at nodes used k) x (subst (λ (j : ℕ). Has (items_at nodes used j) x) at had)
+            Contains-append_right (items_below nodes used k) (items_at nodes used k) x (subst (λ (j : ℕ). Contains (items_at nodes used j) x) at had)
       ]
 
-  held_only_there : (i : ℕ) → Has (kept_items nodes used) (Held i) → (i < length nodes) × (get_or used i false ≡ true) × Remembered nodes used i
+  held_only_there : (i : ℕ) → Contains (kept_items nodes used) (Held i) → (i < length nodes) × (get_or used i false ≡ true) × Remembered nodes used i
   held_only_there i had =
       let r = below_cases (length nodes) (Held i) had in
       elim (at_cases r.0 (Held i) r.2) [
@@ -149,7 +149,7 @@ module _ (nodes : List Node) (used : List Bool) where
         | inr (f, e) ↦ absurd (never i r.0 (sym e))
       ]
 
-  failed_only_there : (i : ℕ) → Has (kept_items nodes used) (Failed i) → (i < length nodes) × (get_or used i false ≡ true) × (is_always (get_or nodes i True) ≡ true)
+  failed_only_there : (i : ℕ) → Contains (kept_items nodes used) (Failed i) → (i < length nodes) × (get_or used i false ≡ true) × (is_always (get_or nodes i True) ≡ true)
   failed_only_there i had =
       let r = below_cases (length nodes) (Failed i) had in
       elim (at_cases r.0 (Failed i) r.2) [
@@ -165,7 +165,7 @@ module _ (nodes : List Node) (used : List Bool) where
   Rising : List Item → Type 0
   Rising xs = (j k : ℕ) (d : Item) → j < k → k < length xs → rank (get_or xs j d) < rank (get_or xs k d)
 
-  rising-append : (xs ys : List Item) → Rising xs → Rising ys → ((x y : Item) → Has xs x → Has ys y → rank x < rank y) → Rising (xs ++ ys)
+  rising-append : (xs ys : List Item) → Rising xs → Rising ys → ((x y : Item) → Contains xs x → Contains ys y → rank x < rank y) → Rising (xs ++ ys)
   unfolding Rising
   rising-append xs ys up up' across j k d l m =
       elim (cases_lt k (length xs)) [
@@ -179,7 +179,7 @@ module _ (nodes : List Node) (used : List Bool) where
             elim (cases_lt j (length xs)) [
               | inl in' ↦
                   let f = get_or_append_left xs ys d j in' in
-                  omega (arith, ap rank f, ap rank g, across (get_or xs j d) (get_or ys (k - length xs) d) (has_get_or xs j d in') (has_get_or ys (k - length xs) d k-in))
+                  omega (arith, ap rank f, ap rank g, across (get_or xs j d) (get_or ys (k - length xs) d) (Contains-get_or xs j d in') (Contains-get_or ys (k - length xs) d k-in))
               | inr past' ↦
                   let f = get_or-append_right xs ys (length xs) j d refl past' in
                   let less : j - length xs < k - length xs = omega arith in
@@ -192,7 +192,7 @@ module _ (nodes : List Node) (used : List Bool) where
   rising_one true x j k d l m = absurd (omega arith)
   rising_one false x j k d l m = absurd (omega arith)
 
-  rank_at : (k : ℕ) (x : Item) → Has (items_at nodes used k) x → (2 * k ≤ rank x) × (rank x < 2 * (k + 1))
+  rank_at : (k : ℕ) (x : Item) → Contains (items_at nodes used k) x → (2 * k ≤ rank x) × (rank x < 2 * (k + 1))
   rank_at k x had =
       elim (at_cases k x had) [
         | inl (h, e) ↦ (omega (arith, ap rank e), omega (arith, ap rank e))

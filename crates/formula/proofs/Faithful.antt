@@ -1,6 +1,6 @@
 -- Merging keeps the formulas: each once, in the order in which they first come, and each word's number is that of its formula.
 use Rattle.std.proofs.Common.{◌≡◌, ℕ, suc, ◌+◌, ◌<◌, ◌≤◌, true, List, [], ◌∷◌, ◌++◌, length, get_or, sym, refl, ap, ◌∙◌, subst, ⊎_elim, arith, rules}
-use Rattle.std.proofs.ByRecursion.{has_get_or}
+use Rattle.std.proofs.lemmas.List.Elements.{Contains-get_or, at_from_Contains}
 use Rattle.std.proofs.lemmas.List.{append_assoc, length_push, get_or_append_left, get_or_push}
 use Rattle.std.proofs.lemmas.Bool.{and_parts, ltb-true, lt-ltb, cases_lt}
 use Rattle.register.specs.Keys.{Identical, Kept, place_of, enter}
@@ -103,7 +103,7 @@ module _ (came held : List Node) (numbers : List ℕ) (w : Node) (sound : Sound 
         kept =
             subst (λ ts. Kept ts (formulas held)) (sym (formulas-push came w))
             (kept_there Identical identical_sameness (tree_of (formulas came) w) (formulas came) (formulas held) sound.kept
-            (get_or (formulas held) p truth, has_get_or (formulas held) p truth in', sym tree));
+            (get_or (formulas held) p truth, Contains-get_or (formulas held) p truth in', sym tree));
       }
 
   sound_new : ((p : ℕ) → p < length held → get_or held p True ≡ renumbered numbers w → ⊥) → Sound (came ++ (w ∷ [])) (held ++ (renumbered numbers w ∷ [])) (numbers ++ (length held ∷ []))
@@ -127,7 +127,10 @@ module _ (came held : List Node) (numbers : List ℕ) (w : Node) (sound : Sound 
             subst (λ ts. Kept ts (formulas (held ++ (n ∷ [])))) (sym (formulas-push came w))
             (subst (Kept (formulas came ++ (tree_of (formulas came) w ∷ []))) (sym trees)
             (kept_new Identical identical_sameness (tree_of (formulas came) w) (formulas came) (formulas held) sound.kept
-            (λ t had same. let in' : had.0 < length held = omega (arith, had.1, length-formulas held) in new had.0 in' (only_node had.0 in' (had.2 truth ∙ same)))));
+            (λ t had same.
+            let at = at_from_Contains (formulas held) t had in
+            let in' : at.0 < length held = omega (arith, at.1, length-formulas held) in
+            new at.0 in' (only_node at.0 in' (at.2 truth ∙ same)))));
       }
 
   sound_more : Sound (came ++ (w ∷ [])) (enter same_node (renumbered numbers w) held) (numbers ++ (place_of same_node (renumbered numbers w) held ∷ []))

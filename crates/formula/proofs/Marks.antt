@@ -1,7 +1,7 @@
 -- The marks are exact: a node is marked if and only if it rests.
 use Rattle.std.proofs.Common.{◌≡◌, ℕ, zero, suc, ◌<◌, ◌≤◌, Bool, true, false, cond, ◌⊎◌, List, [], ◌∷◌, length, get_or, set, replicate, sym, refl, ap, ◌∙◌, subst, inl, inr, arith, rules}
-use Rattle.std.specs.List.{ContainsAt as Has, AllByRecursion as All}
-use Rattle.std.proofs.ByRecursion.{has_append_right}
+use Rattle.std.specs.List.{Contains, All}
+use Rattle.std.proofs.lemmas.List.Elements.{Contains-append_right, All-head, All-tail}
 use Rattle.std.proofs.lemmas.List.{length-set, length-replicate, get_or-set_same, get_or-set_other, get_or-replicate, get_or_past}
 use Rattle.std.proofs.lemmas.Bool.{both_ways, cond_both, cond-true, cases_lt, cases_eq}
 use Rattle.formula.specs.declared.Node.{Node}
@@ -12,14 +12,14 @@ use Rattle.formula.proofs.Trees.{earlier_at}
 use Rattle.formula.proofs.Apart.{operands_are_below}
 
 -- membership in a list that begins with a
-has_first : (a : ℕ) (as' : List ℕ) (i : ℕ) → a ≡ i → Has (a ∷ as') i
-has_first a as' i e = (0, omega arith, λ d. e)
+has_first : (a : ℕ) (as' : List ℕ) (i : ℕ) → a ≡ i → Contains (a ∷ as') i
+has_first a as' i e = (0, omega arith, e)
 
-has_cases : (a : ℕ) (as' : List ℕ) (i : ℕ) → Has (a ∷ as') i → (a ≡ i) ⊎ Has as' i
-has_cases a as' i (zero, l, at) = inl (at 0)
+has_cases : (a : ℕ) (as' : List ℕ) (i : ℕ) → Contains (a ∷ as') i → (a ≡ i) ⊎ Contains as' i
+has_cases a as' i (zero, l, at) = inl at
 has_cases a as' i (suc k, l, at) = inr (k, omega arith, at)
 
-none_has : (i : ℕ) → Has [] i → ⊥
+none_has : (i : ℕ) → Contains [] i → ⊥
 none_has i (k, l, at) = omega arith
 
 length-all_marked : (ms : List Bool) (as' : List ℕ) → length (all_marked ms as') ≡ length ms
@@ -45,7 +45,7 @@ all_marked_stays ms [] i h = h
 all_marked_stays ms (a ∷ as') i h = all_marked_stays (set ms a true) as' i (set_stays ms a i h)
 
 -- what was to be marked is
-all_marked_marks : (ms : List Bool) (as' : List ℕ) (i : ℕ) → Has as' i → i < length ms → get_or (all_marked ms as') i false ≡ true
+all_marked_marks : (ms : List Bool) (as' : List ℕ) (i : ℕ) → Contains as' i → i < length ms → get_or (all_marked ms as') i false ≡ true
 all_marked_marks ms [] i had l = absurd (none_has i had)
 all_marked_marks ms (a ∷ as') i had l =
     elim (has_cases a as' i had) [
@@ -54,19 +54,19 @@ all_marked_marks ms (a ∷ as') i had l =
     ]
 
 -- and nothing else
-all_marked_from : (ms : List Bool) (as' : List ℕ) (i : ℕ) → get_or (all_marked ms as') i false ≡ true → Has as' i ⊎ (get_or ms i false ≡ true)
+all_marked_from : (ms : List Bool) (as' : List ℕ) (i : ℕ) → get_or (all_marked ms as') i false ≡ true → Contains as' i ⊎ (get_or ms i false ≡ true)
 all_marked_from ms [] i h = inr h
 all_marked_from ms (a ∷ as') i h =
     elim (all_marked_from (set ms a true) as' i h) [
-      | inl had ↦ inl (has_append_right (a ∷ []) as' i had)
+      | inl had ↦ inl (Contains-append_right (a ∷ []) as' i had)
       | inr was ↦ elim (set-from ms a i was) [ inl e ↦ inl (has_first a as' i e) | inr old ↦ inr old ]
     ]
 
 all_marked_high : (ms : List Bool) (as' : List ℕ) (k i : ℕ) → All (λ a. a < k) as' → k ≤ i → get_or (all_marked ms as') i false ≡ get_or ms i false
 all_marked_high ms [] k i low l = refl
 all_marked_high ms (a ∷ as') k i low l =
-    let ne : i ≡ a → ⊥ = λ e. omega (arith, low.0) in
-    all_marked_high (set ms a true) as' k i low.1 l ∙ get_or-set_other ms a i true false ne
+    let ne : i ≡ a → ⊥ = λ e. omega (arith, All-head (λ b. b < k) a as' low) in
+    all_marked_high (set ms a true) as' k i (All-tail (λ b. b < k) a as' low) l ∙ get_or-set_other ms a i true false ne
 
 -- of no marks, none is at any place
 pub unmarked : (n i : ℕ) → get_or (replicate n false) i false ≡ false
@@ -91,7 +91,7 @@ module _ (nodes : List Node) where
       cond_both (get_or ms k false) (all_marked ms (operands (get_or nodes k True))) ms (λ r. get_or r i false ≡ true)
       (λ _. all_marked_stays ms (operands (get_or nodes k True)) i h) (λ _. h)
 
-  turned_marks : (k : ℕ) (ms : List Bool) (i : ℕ) → get_or ms k false ≡ true → Has (operands (get_or nodes k True)) i → i < length ms → get_or (turned k ms) i false ≡ true
+  turned_marks : (k : ℕ) (ms : List Bool) (i : ℕ) → get_or ms k false ≡ true → Contains (operands (get_or nodes k True)) i → i < length ms → get_or (turned k ms) i false ≡ true
   unfolding turned
   turned_marks k ms i here had l =
       subst (λ r. get_or r i false ≡ true) (sym (cond-true (get_or ms k false) (all_marked ms (operands (get_or nodes k True))) ms here))
@@ -121,7 +121,7 @@ module _ (nodes : List Node) where
       ∙ turned_high k ms i (low_operands h k (omega arith)) (omega arith)
 
   -- the operands of a marked node are marked
-  spread_closed : earlier nodes ≡ true → (k : ℕ) (ms : List Bool) (i a : ℕ) → k ≤ length nodes → i < k → get_or (spread nodes k ms) i false ≡ true → Has (operands (get_or nodes i True)) a → a < length ms → get_or (spread nodes k ms) a false ≡ true
+  spread_closed : earlier nodes ≡ true → (k : ℕ) (ms : List Bool) (i a : ℕ) → k ≤ length nodes → i < k → get_or (spread nodes k ms) i false ≡ true → Contains (operands (get_or nodes i True)) a → a < length ms → get_or (spread nodes k ms) a false ≡ true
   spread_closed h zero ms i a m l marked had in' = absurd (omega arith)
   spread_closed h (suc k) ms i a m l marked had in' =
       let after = ap (λ r. get_or r a false) (spread_step k ms) in
@@ -136,7 +136,7 @@ module _ (nodes : List Node) where
             ∙ subst (λ (j : ℕ). get_or (spread nodes k (turned k ms)) j false ≡ true) at marked' in
             after
             ∙ spread_stays k (turned k ms) a
-            (turned_marks k ms a was (subst (λ (j : ℕ). Has (operands (get_or nodes j True)) a) at had) in')
+            (turned_marks k ms a was (subst (λ (j : ℕ). Contains (operands (get_or nodes j True)) a) at had) in')
       ]
 
   module _ (roots : List ℕ) where
@@ -164,9 +164,9 @@ module _ (nodes : List Node) where
     length-first = length-all_marked (replicate (length nodes) false) roots ∙ length-replicate (length nodes) false
 
     -- a node past the end has no operands
-    no_operands : (i a : ℕ) → length nodes ≤ i → Has (operands (get_or nodes i True)) a → ⊥
+    no_operands : (i a : ℕ) → length nodes ≤ i → Contains (operands (get_or nodes i True)) a → ⊥
     no_operands i a past had =
-        none_has a (subst (λ n. Has (operands n) a) (get_or_past nodes i True past) had)
+        none_has a (subst (λ n. Contains (operands n) a) (get_or_past nodes i True past) had)
 
     rests_marked : earlier nodes ≡ true → (i : ℕ) → Rests nodes roots i → i < length nodes → get_or (resting nodes roots) i false ≡ true
     rests_marked h i (root had) l =

@@ -1,7 +1,6 @@
 -- Of the nodes that are used, some are remembered from step to step by an item. The held item of a node is kept if it is a since or a once, or the operand
 -- of a previous that is used; its failed item is kept if it is an always. Items are ordered by node number, held before failed.
-use Rattle.std.specs.Prelude.{◌≡◌, ℕ, zero, suc, ◌+◌, ◌*◌, ◌<◌, ◌≤◌, Bool, true, false, cond, ◌&&◌, ◌||◌, ◌⊎◌, List, [], ◌∷◌, ◌++◌, map, length, Some, None, Option, ◌==◌, slice_index, slice_index_or}
-use Rattle.std.specs.List.{ContainsAt as Has}
+use Rattle.std.specs.Prelude.{◌≡◌, ℕ, zero, suc, ◌+◌, ◌*◌, ◌<◌, ◌≤◌, Bool, true, false, cond, ◌&&◌, ◌||◌, ◌⊎◌, List, [], ◌∷◌, ◌++◌, map, length, Some, None, Option, ◌==◌, slice_index, slice_index_or, Contains}
 use Rattle.bounded.specs.Listed.{listed}
 use Rattle.bounded.specs.declared.Bounded.{Bounded}
 use Rattle.formula.specs.declared.Node.{Node}
@@ -80,10 +79,10 @@ Remembered nodes used i = (lasting (slice_index_or nodes i True) ≡ true) ⊎ (
 
 -- which items a list holds, and in which order: no item comes twice
 pub record Selected (nodes : List Node) (used : List Bool) (items : List Item) : Type 0 where
-  pub held_kept : (i : ℕ) → i < length nodes → slice_index_or used i false ≡ true → Remembered nodes used i → Has items (Held i)
-  pub held_only : (i : ℕ) → Has items (Held i) → (i < length nodes) × (slice_index_or used i false ≡ true) × Remembered nodes used i
-  pub failed_kept : (i : ℕ) → i < length nodes → slice_index_or used i false ≡ true → is_always (slice_index_or nodes i True) ≡ true → Has items (Failed i)
-  pub failed_only : (i : ℕ) → Has items (Failed i) → (i < length nodes) × (slice_index_or used i false ≡ true) × (is_always (slice_index_or nodes i True) ≡ true)
+  pub held_kept : (i : ℕ) → i < length nodes → slice_index_or used i false ≡ true → Remembered nodes used i → Contains items (Held i)
+  pub held_only : (i : ℕ) → Contains items (Held i) → (i < length nodes) × (slice_index_or used i false ≡ true) × Remembered nodes used i
+  pub failed_kept : (i : ℕ) → i < length nodes → slice_index_or used i false ≡ true → is_always (slice_index_or nodes i True) ≡ true → Contains items (Failed i)
+  pub failed_only : (i : ℕ) → Contains items (Failed i) → (i < length nodes) × (slice_index_or used i false ≡ true) × (is_always (slice_index_or nodes i True) ≡ true)
   pub rising : (j k : ℕ) (d : Item) → j < k → k < length items → rank (slice_index_or items j d) < rank (slice_index_or items k d)
 
 -- the kept items of at most 128 nodes; or there are more nodes, or more items than the list can hold

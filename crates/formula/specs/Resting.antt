@@ -1,7 +1,6 @@
 -- A reward rests on its node and on every operand below that.
 -- `Rests` says so by a derivation from the roots, the nodes of the rewards; `resting` finds it, from the highest node down.
-use Rattle.std.specs.Prelude.{◌≡◌, ℕ, zero, suc, ◌-◌, ◌<◌, ◌≤◌, Bool, true, false, cond, List, [], ◌∷◌, ◌++◌, length, replicate, Some, None, Option, slice_index_or, slice_set}
-use Rattle.std.specs.List.{ContainsAt as Has}
+use Rattle.std.specs.Prelude.{◌≡◌, ℕ, zero, suc, ◌-◌, ◌<◌, ◌≤◌, Bool, true, false, cond, List, [], ◌∷◌, ◌++◌, length, replicate, Some, None, Option, slice_index_or, slice_set, Contains}
 use Rattle.formula.specs.declared.Node.{Node}
 use Rattle.formula.specs.declared.Node.TheVariants.{Label, True, Not, And, Or, Previous, Since, Always, Once}
 
@@ -17,8 +16,8 @@ operands (Always a) = a ∷ []
 operands (Once a) = a ∷ []
 
 pub data Rests (nodes : List Node) (roots : List ℕ) : ℕ → Type 0 where
-  root : {i : ℕ} → Has roots i → Rests nodes roots i
-  below : {i a : ℕ} → Rests nodes roots i → Has (operands (slice_index_or nodes i True)) a → Rests nodes roots a
+  root : {i : ℕ} → Contains roots i → Rests nodes roots i
+  below : {i a : ℕ} → Rests nodes roots i → Contains (operands (slice_index_or nodes i True)) a → Rests nodes roots a
 
 -- the places of a list marked one after another; one past the end is passed over
 abbrev pub all_marked : List Bool → List ℕ → List Bool

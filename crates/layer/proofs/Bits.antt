@@ -1,11 +1,11 @@
 -- The bits of a memory and of a mask, one by one.
 use Rattle.std.proofs.Common.{◌≡◌, ℕ, zero, suc, ◌+◌, ◌*◌, ◌/◌, ◌%◌, ◌^◌, ◌<◌, Bool, true, false, eqb, List, [], ◌∷◌, length, get_or, sym, ap, ◌∙◌, subst, pow-suc, mul_comm, add_comm, arith}
 use native.Mathlib.Nat.{zero-div}
-use Rattle.std.specs.List.{ContainsAt as Has}
+use Rattle.std.specs.List.{Contains}
 use Rattle.std.proofs.lemmas.Nat.{shr-shr, shr_high}
 use Rattle.std.proofs.lemmas.Nat.Bits.{bit_at-suc, bit_at_lowest}
 use Rattle.std.specs.Int.{bit_at}
-use Rattle.std.proofs.ByRecursion.{has_get_or}
+use Rattle.std.proofs.lemmas.List.Elements.{Contains-get_or}
 use Rattle.std.proofs.lemmas.List.{get_or-map}
 use Rattle.std.proofs.lemmas.Bool.{eq-eqb, and_parts, ltb-true}
 use Rattle.formula.specs.declared.Item.TheVariants.{Held}
@@ -15,9 +15,9 @@ use Rattle.truth.specs.Truth.{labelled, holds}
 use Rattle.words.specs.Tests.{all}
 use Rattle.words.proofs.Tests.{all_at}
 use Rattle.wishlayout.specs.Wishes.{good_wish}
-use Rattle.layer.specs.Judging.{bit, bits_of, item_held, wish_held, bits_of_wishes}
+use Rattle.layer.specs.Verdicts.{bit, bits_of, item_held, wish_held, bits_of_wishes}
 use Rattle.layer.proofs.Recalling.{high_bits}
-use Rattle.layer.proofs.Verdicts.{item_told}
+use Rattle.layer.proofs.VerdictsRight.{item_told}
 use Rattle.layer.specs.Records.{trace_of, end_of, truths, MemoryTells, WishesShow, LabelsStay}
 
 low : (b : Bool) (m : ℕ) → labelled (bit b + 2 * m) 0 ≡ b
@@ -45,7 +45,7 @@ pub memory_tells : MemoryTells
 memory_tells b ok τ zero k l = empty_bit k
 memory_tells b ok τ (suc n) k l =
     bits_bit (item_held (truths b.nodes τ n)) b.items k (Held 0) l
-    ∙ item_told b.nodes b.wishes (and_parts _ _ ok.names).0 τ n (get_or b.items k (Held 0)) (subst (λ is. Has is (get_or b.items k (Held 0))) ok.remembers (has_get_or b.items k (Held 0) l))
+    ∙ item_told b.nodes b.wishes (and_parts _ _ ok.names).0 τ n (get_or b.items k (Held 0)) (subst (λ is. Contains is (get_or b.items k (Held 0))) ok.remembers (Contains-get_or b.items k (Held 0) l))
 
 above : (labels low_part high k : ℕ) → low_part < 2 ^ labels → labelled (low_part + 2 ^ labels * high) (labels + k) ≡ labelled high k
 above labels low_part high k small =

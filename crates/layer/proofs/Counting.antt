@@ -1,12 +1,12 @@
 -- One bit more, from the last x to the first; and one wish more, from the first to the last.
 use Rattle.std.proofs.Common.{◌≡◌, ℕ, ◌+◌, ◌*◌, ◌^◌, ◌<◌, ◌≤◌, Bool, true, false, cond, List, [], ◌∷◌, ◌++◌, length, get_or, drop, ℤ, ◌+ℤ◌, nat_abs, sym, refl, ap, ◌∙◌, arith, w32, to_z, of_z}
-use Rattle.std.specs.List.{ContainsAt as Has}
-use Rattle.std.proofs.ByRecursion.{has_append_right}
+use Rattle.std.specs.List.{Contains}
+use Rattle.std.proofs.lemmas.List.Elements.{Contains-append_right}
 use Rattle.std.proofs.lemmas.List.{at_drop_more}
 use Rattle.std.proofs.lemmas.Int.{fits_signed_from_abs, to_z-of_z}
 use Rattle.wishlayout.specs.declared.Wish.{Wish}
 use Rattle.wishlayout.specs.Wishes.{amount}
-use Rattle.layer.specs.Judging.{bit, bits_of, wish_held, earned}
+use Rattle.layer.specs.Verdicts.{bit, bits_of, wish_held, earned}
 use Rattle.layer.specs.Sizes.{abs_add}
 
 -- a number from bits, with one for each x below those that there are
@@ -28,9 +28,9 @@ onto_none holds [] = refl
 onto_none holds (x ∷ xs) = ap (λ n. bit (holds x) + 2 * n) (onto_none holds xs)
 
 -- equal bits make equal numbers
-pub bits_same : {X : Type 0} (f g : X → Bool) (xs : List X) → ((x : X) → Has xs x → f x ≡ g x) → bits_of f xs ≡ bits_of g xs
+pub bits_same : {X : Type 0} (f g : X → Bool) (xs : List X) → ((x : X) → Contains xs x → f x ≡ g x) → bits_of f xs ≡ bits_of g xs
 bits_same f g [] h = refl
-bits_same f g (x ∷ xs) h = λ k. bit (h x (0, omega arith, λ d. refl) k) + 2 * bits_same f g xs (λ y has. h y (has_append_right (x ∷ []) xs y has)) k
+bits_same f g (x ∷ xs) h = λ k. bit (h x (0, omega arith, refl) k) + 2 * bits_same f g xs (λ y has. h y (Contains-append_right (x ∷ []) xs y has)) k
 
 -- a sum of small numbers, in 32 bits
 sum_is : (t a : ℤ) → nat_abs t ≤ 2 ^ 30 → nat_abs a < 65536 → to_z w32 (of_z w32 (t +ℤ to_z w32 (of_z w32 a))) ≡ t +ℤ a

@@ -1,5 +1,5 @@
 pub mod Recalling
-pub mod Verdicts
+pub mod VerdictsRight
 pub mod Counting
 pub mod Refusing
 pub mod Unfolds

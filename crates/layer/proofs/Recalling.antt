@@ -1,13 +1,13 @@
 -- What a memory recalls: of its items, what was remembered of each; and nothing else. An empty memory recalls nothing.
 use Rattle.std.proofs.Common.{◌≡◌, ℕ, zero, suc, ◌+◌, ◌*◌, ◌/◌, ◌%◌, ◌^◌, ◌<◌, ◌≤◌, Bool, true, false, ◌&&◌, ◌||◌, eqb, List, [], ◌∷◌, sym, refl, ap, ◌∙◌, subst, inl, inr, arith}
 use Rattle.std.proofs.Math.Bool.{and-false}
-use Rattle.std.specs.List.{ContainsAt as Has, enumerate_from, list_any}
+use Rattle.std.specs.List.{Contains, enumerate_from, list_any}
 use Rattle.std.proofs.lemmas.Nat.{shr-shr}
 use Rattle.std.proofs.lemmas.Nat.Bits.{bit_at_above}
 use Rattle.std.proofs.lemmas.Bool.{cases_Bool, both_ways, and_parts, and_from, or_cases, or_left, or_right, eqb-true, eq-eqb}
 use Rattle.formula.specs.declared.Item.{Item}
 use Rattle.formula.specs.declared.Item.TheVariants.{Held, Failed}
-use Rattle.layer.specs.Judging.{same_item, recalled, bit, item_held, memory_of}
+use Rattle.layer.specs.Verdicts.{same_item, recalled, bit, item_held, memory_of}
 
 same_is : (x y : Item) → same_item x y ≡ true → x ≡ y
 same_is (Held i) (Held j) e = ap Held (eqb-true i j e)
@@ -39,17 +39,17 @@ module _ (vs : List Bool) where
         | inr later ↦ only_there items x later
       ]
 
-  there : (items : List Item) (x : Item) → Has items x → item_held vs x ≡ true → recalled items (memory_of items vs) x ≡ true
+  there : (items : List Item) (x : Item) → Contains items x → item_held vs x ≡ true → recalled items (memory_of items vs) x ≡ true
   there [] x (k, l, at) e = absurd (omega arith)
   there (y ∷ items) x (zero, l, at) e =
       step y items x
       ∙ or_left (same_item x y && item_held vs y) (recalled items (memory_of items vs) x)
-      (and_from (same_item x y) (item_held vs y) (subst (λ z. same_item x z ≡ true) (sym (at x)) (same_self x)) (ap (item_held vs) (at x) ∙ e))
+      (and_from (same_item x y) (item_held vs y) (subst (λ z. same_item x z ≡ true) (sym at) (same_self x)) (ap (item_held vs) at ∙ e))
   there (y ∷ items) x (suc k, l, at) e =
       step y items x ∙ or_right (same_item x y && item_held vs y) (recalled items (memory_of items vs) x) (there items x (k, omega arith, at) e)
 
   -- of an item, what was remembered of it
-  pub item_recalls : (items : List Item) (x : Item) → Has items x → recalled items (memory_of items vs) x ≡ item_held vs x
+  pub item_recalls : (items : List Item) (x : Item) → Contains items x → recalled items (memory_of items vs) x ≡ item_held vs x
   item_recalls items x has =
       elim (cases_Bool (item_held vs x)) [
         | inl e ↦ there items x has e ∙ sym e

@@ -1,30 +1,23 @@
--- A book fits just where there is no reason to refuse it, and what a layer means in either case.
-use Rattle.std.proofs.Common.{◌≡◌, Bool, true, false, cond, not, ◌&&◌, Some, None, Option, Ok, Err, Result, IfOk, MatchOption, sym, refl, ap, ◌∙◌, subst}
-use Rattle.std.specs.Option.{option_map, is_some}
+-- What a layer means where its book fits, and where it does not.
+use Rattle.std.proofs.Common.{◌≡◌, true, Some, None, Option, Ok, Err, Result, IfOk, MatchOption, sym, ap, ◌∙◌, subst}
+use Rattle.std.specs.Option.{option_map, is_none}
 use Rattle.std.specs.Result.{result_ok, result_err}
 use Rattle.std.proofs.lemmas.Bool.{cond-true, cond-false}
-use Rattle.model.specs.Models.{Model}
+use Rattle.model.specs.Models.{Model, sizes_of}
 use Rattle.refusal.specs.declared.Refusal.{Refusal}
-use Rattle.refusal.specs.declared.Refusal.TheVariants.{NoSuchLabel, BoundPassed, SpanPassed}
 use Rattle.wishbook.specs.declared.book.WishBook.{WishBook}
 use Rattle.wishbook.specs.Book.{Book}
 use Rattle.wishbook.specs.Contents.{contents}
-use Rattle.layer.specs.Layering.{has_labels, bound_fits, span_fits, refusal, fits, layered, over}
-use Rattle.layer.specs.Laying.{laid_book}
+use Rattle.layer.specs.Layered.{refusal, fits, layered, over}
+use Rattle.layer.specs.InMemory.{laid_book}
 
-tests : (x y z : Bool) → (x && (y && z)) ≡ not (is_some (cond x (cond y (cond z None (Some SpanPassed)) (Some BoundPassed)) (Some NoSuchLabel)))
-tests true true true = refl
-tests true true false = refl
-tests true false z = refl
-tests false y z = refl
-
-pub fit_is : (m : Model) (b : Book) (o : Option Refusal) → o ≡ refusal m b → fits m b ≡ not (is_some o)
-fit_is m b o e = tests (has_labels m b) (bound_fits m b) (span_fits m) ∙ ap (λ r. not (is_some r)) (sym e)
+pub fit_is : (m : Model) (b : Book) (o : Option Refusal) → o ≡ refusal (sizes_of m) b → fits m b ≡ is_none o
+fit_is m b o e = ap is_none (sym e)
 
 -- a layer x of the book w on y, if it was made: `own` is the book, and o the layer, if there is one
 module _ {X Y : Type 0} (below : X → Y) (book : X → WishBook) (mean : Y → Model) (y : Y) (w : WishBook) where
   abbrev Made : Result X Refusal → Type 0
-  Made r = IfOk r (λ x. (below x ≡ y) × (book x ≡ w)) × (result_err r ≡ refusal (mean y) (contents w))
+  Made r = IfOk r (λ x. (below x ≡ y) × (book x ≡ w)) × (result_err r ≡ refusal (sizes_of (mean y)) (contents w))
 
   made_book : (r : Result X Refusal) → Made r → option_map (λ x. contents (book x)) (result_ok r) ≡ laid_book (mean y) (Some (contents w))
   made_book (Ok x) (is, e) = ap (λ b. Some (contents b)) is.1 ∙ sym (cond-true (fits (mean y) (contents w)) (Some (contents w)) None (fit_is (mean y) (contents w) None e))

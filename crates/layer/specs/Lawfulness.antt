@@ -1,20 +1,23 @@
 -- A layer on a lawful model is lawful: `layered_lawful` where the book fits, and `over_lawful` for a book that fits or not, or none.
-use Rattle.std.specs.Prelude.{◌≡◌, ℕ, ◌+◌, ◌*◌, ◌^◌, ◌<◌, ◌≤◌, Bool, true, false, ◌&&◌, ltb, List, [], map, length, get_or, pos, IfSome, Some, None, Option, nat_le, nat_lt, slice_index_or, unsigned_abs}
-use Rattle.std.proofs.Common.{inl, inr, sym, ap, ◌∙◌, add-zero, lt_of_lt_of_le, arith, pow_mono}
-use Rattle.std.specs.Option.{option_map}
+use Rattle.std.specs.Prelude.{◌≡◌, ℕ, ◌+◌, ◌*◌, ◌^◌, ◌<◌, ◌≤◌, Bool, true, false, ltb, List, [], map, length, get_or, pos, IfSome, Some, None, Option, nat_le, nat_lt, slice_index_or, unsigned_abs}
+use Rattle.std.proofs.Common.{inl, inr, sym, refl, ap, ◌∙◌, add-zero, lt_of_lt_of_le, arith, pow_mono}
+use Rattle.std.specs.Option.{option_map, is_none}
 use Rattle.std.proofs.lemmas.Nat.{pow_pos}
 use Rattle.std.proofs.lemmas.List.{get_or-map, length-map}
 use Rattle.std.proofs.lemmas.List.Folds.{fold-map}
 use Rattle.std.proofs.lemmas.Bool.{cases_Bool, both_ways, and_parts, and_from, and_cases, leb-true, ltb-true, lt-ltb, cond-true, cond-false, cond_both}
 use Rattle.model.specs.declared.Outcome.{Outcome}
-use Rattle.model.specs.Models.{Model, Lawful, total}
+use Rattle.model.specs.Models.{Model, LawfulStates, LawfulMoves, LawfulShows, LawfulGrounds, Lawful, sizes_of, total}
+use Rattle.refusal.specs.declared.Refusal.TheVariants.{NoSuchLabel, BoundPassed, SpanPassed}
+use Rattle.refusal.specs.declared.Refusal.{Refusal}
+use Rattle.refusal.proofs.Rows.{passed}
 use Rattle.wishbook.specs.declared.book.WishBook.{WishBook}
 use Rattle.wishbook.specs.Book.{Book}
 use Rattle.wishbook.specs.Contents.{contents}
 use Rattle.words.specs.Tests.{all}
 use Rattle.layer.specs.Books.{kept}
-use Rattle.layer.specs.Judging.{item_held, memory_of, wish_held, bits_of_wishes, earned}
-use Rattle.layer.specs.Layering.{names_label_below, amounts, has_labels, bound_fits, span_fits, fits, under, memory, is_layer_state, judged, lifted, layered, over}
+use Rattle.layer.specs.Verdicts.{item_held, memory_of, wish_held, bits_of_wishes, earned}
+use Rattle.layer.specs.Layered.{names_label_below, amounts, labels_fit, bound_fits, span_fits, tests, refusal, fits, under, memory, is_layer_state, verdicts_at, lifted, layered, over}
 use Rattle.layer.specs.Sizes.{bits_below, bits_small, mask_grows, earned_within}
 
 -- what a book that fits leaves room for
@@ -24,16 +27,20 @@ pub record Room (m : Model) (b : Book) : Type 0 where
   pub bound : m.bound + amounts b.wishes ≤ 2000
   pub span : m.span ≤ 2 ^ 44
 
+no_refusal : (o : Option Refusal) → is_none o ≡ true → o ≡ None
+no_refusal None e = refl
+no_refusal (Some r) e = absurd (both_ways false refl e)
+
 pub room : (m : Model) (b : Book) → fits m b ≡ true → Room m b
 room m b e =
-    let whole = and_parts (has_labels m b) (bound_fits m b && span_fits m) e in
-    let labels = and_parts (all (names_label_below m.labels) b.nodes) (nat_le (m.labels + length b.wishes) 24) whole.0 in
-    let sizes = and_parts (bound_fits m b) (span_fits m) whole.1 in
+    let z = sizes_of m in
+    let each = passed (tests z b) (no_refusal (refusal z b) e) in
+    let labels = and_parts (all (names_label_below m.labels) b.nodes) (nat_le (m.labels + length b.wishes) 24) (each 0 (labels_fit z b, NoSuchLabel) refl) in
     record {
       named = labels.0;
       labels = leb-true (m.labels + length b.wishes) 24 labels.1;
-      bound = leb-true (m.bound + amounts b.wishes) 2000 sizes.0;
-      span = leb-true m.span (2 ^ 44) sizes.1;
+      bound = leb-true (m.bound + amounts b.wishes) 2000 (each 1 (bound_fits z b, BoundPassed) refl);
+      span = leb-true m.span (2 ^ 44) (each 2 (span_fits z, SpanPassed) refl);
     }
 
 -- a state below and a memory, as one number and apart again
@@ -89,7 +96,7 @@ module _ (m : Model) (b : Book) (law : Lawful m) (few : length b.items ≤ 16) (
   few_law : (s a : ℕ) → length ((layered m b).outcomes s a) ≤ 8
   few_law s a =
       elim (cases_Bool (is_layer_state m b s)) [
-        | inl t ↦ omega (arith, outs_length s a t, law.few (under s) a)
+        | inl t ↦ omega (arith, outs_length s a t, law.moves.few (under s) a)
         | inr f ↦ omega (arith, ap length (outs_nowhere s a f))
       ]
 
@@ -97,16 +104,16 @@ module _ (m : Model) (b : Book) (law : Lawful m) (few : length b.items ≤ 16) (
   targets_law s a j d h =
       let o = get_or (m.outcomes (under s) a) j nowhere in
       ap (λ (x : Outcome). is_layer_state m b x.target) (outs_at s a j d h)
-      ∙ packed_state o.target (memory_of b.items (judged m b s)) (law.targets (under s) a j nowhere (outs_within s a j h)) (bits_below (item_held (judged m b s)) b.items) (bits_small (item_held (judged m b s)) b.items few)
+      ∙ packed_state o.target (memory_of b.items (verdicts_at m b s)) (law.moves.targets (under s) a j nowhere (outs_within s a j h)) (bits_below (item_held (verdicts_at m b s)) b.items) (bits_small (item_held (verdicts_at m b s)) b.items few)
 
   apart_law : (s a j k : ℕ) (d : Outcome) → j < length ((layered m b).outcomes s a) → k < length ((layered m b).outcomes s a) → (get_or ((layered m b).outcomes s a) j d).target ≡ (get_or ((layered m b).outcomes s a) k d).target → j ≡ k
   apart_law s a j k d h g e =
-      let same : (get_or (m.outcomes (under s) a) j nowhere).target * 65536 + memory_of b.items (judged m b s) ≡ (get_or (m.outcomes (under s) a) k nowhere).target * 65536 + memory_of b.items (judged m b s)
+      let same : (get_or (m.outcomes (under s) a) j nowhere).target * 65536 + memory_of b.items (verdicts_at m b s) ≡ (get_or (m.outcomes (under s) a) k nowhere).target * 65536 + memory_of b.items (verdicts_at m b s)
       = sym (ap (λ (x : Outcome). x.target) (outs_at s a j d h)) ∙ e ∙ ap (λ (x : Outcome). x.target) (outs_at s a k d g) in
-      law.apart (under s) a j k nowhere (outs_within s a j h) (outs_within s a k g) (omega arith)
+      law.moves.apart (under s) a j k nowhere (outs_within s a j h) (outs_within s a k g) (omega arith)
 
   weighed_law : (s a j : ℕ) (d : Outcome) → j < length ((layered m b).outcomes s a) → 1 ≤ (get_or ((layered m b).outcomes s a) j d).weight
-  weighed_law s a j d h = omega (arith, ap (λ (x : Outcome). x.weight) (outs_at s a j d h), law.weighed (under s) a j nowhere (outs_within s a j h))
+  weighed_law s a j d h = omega (arith, ap (λ (x : Outcome). x.weight) (outs_at s a j d h), law.moves.weighed (under s) a j nowhere (outs_within s a j h))
 
   offered_parts : (s a : ℕ) → (layered m b).offered s a ≡ true → (is_layer_state m b s ≡ true) × (m.offered (under s) a ≡ true)
   offered_parts s a e = and_parts (is_layer_state m b s) (m.offered (under s) a) e
@@ -114,53 +121,68 @@ module _ (m : Model) (b : Book) (law : Lawful m) (few : length b.items ≤ 16) (
   whole_law : (s a : ℕ) → (layered m b).offered s a ≡ true → total ((layered m b).outcomes s a) ≡ 8
   whole_law s a e =
       let p = offered_parts s a e in
-      ap total (outs_here s a p.0) ∙ total_lifted m b s (m.outcomes (under s) a) ∙ law.whole (under s) a p.1
+      ap total (outs_here s a p.0) ∙ total_lifted m b s (m.outcomes (under s) a) ∙ law.moves.whole (under s) a p.1
 
   silent_law : (s a : ℕ) → (layered m b).offered s a ≡ false → (layered m b).outcomes s a ≡ []
   silent_law s a e =
       elim (cases_Bool (is_layer_state m b s)) [
         | inl t ↦ elim (and_cases (is_layer_state m b s) (m.offered (under s) a) e) [
           | inl f ↦ absurd (both_ways (is_layer_state m b s) f t)
-          | inr f ↦ outs_here s a t ∙ ap (map (lifted m b s)) (law.silent (under s) a f)
+          | inr f ↦ outs_here s a t ∙ ap (map (lifted m b s)) (law.moves.silent (under s) a f)
         ]
         | inr f ↦ outs_nowhere s a f
       ]
 
   labelled_law : (s : ℕ) → (layered m b).mask s < 2 ^ (m.labels + length b.wishes)
   labelled_law s =
-      cond_both (is_layer_state m b s) (m.mask (under s) + 2 ^ m.labels * bits_of_wishes b.wishes (judged m b s)) 0 (λ n. n < 2 ^ (m.labels + length b.wishes))
-      (λ t. mask_grows m.labels (length b.wishes) (m.mask (under s)) (bits_of_wishes b.wishes (judged m b s)) (law.labelled (under s)) (bits_below (wish_held (judged m b s)) b.wishes))
+      cond_both (is_layer_state m b s) (m.mask (under s) + 2 ^ m.labels * bits_of_wishes b.wishes (verdicts_at m b s)) 0 (λ n. n < 2 ^ (m.labels + length b.wishes))
+      (λ t. mask_grows m.labels (length b.wishes) (m.mask (under s)) (bits_of_wishes b.wishes (verdicts_at m b s)) (law.shows.labelled (under s)) (bits_below (wish_held (verdicts_at m b s)) b.wishes))
       (λ f. pow_pos (m.labels + length b.wishes))
 
   bounded_law : (s : ℕ) → unsigned_abs ((layered m b).reward s) ≤ m.bound + amounts b.wishes
   bounded_law s =
-      cond_both (is_layer_state m b s) (earned (m.reward (under s)) b.wishes (judged m b s)) (pos 0) (λ z. unsigned_abs z ≤ m.bound + amounts b.wishes)
-      (λ t. omega (arith, earned_within (m.reward (under s)) b.wishes (judged m b s), law.bounded (under s)))
+      cond_both (is_layer_state m b s) (earned (m.reward (under s)) b.wishes (verdicts_at m b s)) (pos 0) (λ z. unsigned_abs z ≤ m.bound + amounts b.wishes)
+      (λ t. omega (arith, earned_within (m.reward (under s)) b.wishes (verdicts_at m b s), law.shows.bounded (under s)))
       (λ f. omega arith)
 
-  pub layered_lawful : Lawful (layered m b)
-  layered_lawful = record {
-    starts = ap (is_layer_state m b) (sym (add-zero (m.start * 65536))) ∙ packed_state m.start 0 law.starts (pow_pos (length b.items)) (omega arith);
-    within = λ s e. omega (arith, law.within (under s) (state_parts s e).0);
-    acts = law.acts;
-    offers = λ s a e. let p = offered_parts s a e in (p.0, (law.offers (under s) a p.1).1);
-    waits = λ s e. and_from (is_layer_state m b s) (m.offered (under s) 0) e (law.waits (under s) (state_parts s e).0);
-    some = λ s a e. let p = offered_parts s a e in omega (arith, outs_length s a p.0, law.some (under s) a p.1);
+  states_law : LawfulStates (layered m b).start (layered m b).state (layered m b).span
+  states_law = record {
+    starts = ap (is_layer_state m b) (sym (add-zero (m.start * 65536))) ∙ packed_state m.start 0 law.states.starts (pow_pos (length b.items)) (omega arith);
+    within = λ s e. omega (arith, law.states.within (under s) (state_parts s e).0);
+  }
+
+  moves_law : LawfulMoves (layered m b).state (layered m b).offered (layered m b).outcomes (layered m b).actions
+  moves_law = record {
+    acts = law.moves.acts;
+    offers = λ s a e. let p = offered_parts s a e in (p.0, (law.moves.offers (under s) a p.1).1);
+    waits = λ s e. and_from (is_layer_state m b s) (m.offered (under s) 0) e (law.moves.waits (under s) (state_parts s e).0);
+    some = λ s a e. let p = offered_parts s a e in omega (arith, outs_length s a p.0, law.moves.some (under s) a p.1);
     few = few_law;
     targets = targets_law;
     apart = apart_law;
     weighed = weighed_law;
     whole = whole_law;
+    silent = silent_law;
+  }
+
+  shows_law : LawfulShows (layered m b).state (layered m b).mask (layered m b).reward (layered m b).labels (layered m b).bound
+  shows_law = record {
     labelled = labelled_law;
     narrow = r.labels;
     bounded = bounded_law;
     modest = r.bound;
-    grounded = λ s. cond_both (is_layer_state m b s) (m.site (under s)) 0 (λ n. n < 4096) (λ t. law.grounded (under s)) (λ f. omega arith);
-    no_mask = λ s f. cond-false (is_layer_state m b s) (m.mask (under s) + 2 ^ m.labels * bits_of_wishes b.wishes (judged m b s)) 0 f;
-    no_reward = λ s f. cond-false (is_layer_state m b s) (earned (m.reward (under s)) b.wishes (judged m b s)) (pos 0) f;
-    no_ground = λ s f. cond-false (is_layer_state m b s) (m.site (under s)) 0 f;
-    silent = silent_law;
+    no_mask = λ s f. cond-false (is_layer_state m b s) (m.mask (under s) + 2 ^ m.labels * bits_of_wishes b.wishes (verdicts_at m b s)) 0 f;
+    no_reward = λ s f. cond-false (is_layer_state m b s) (earned (m.reward (under s)) b.wishes (verdicts_at m b s)) (pos 0) f;
   }
+
+  grounds_law : LawfulGrounds (layered m b).state (layered m b).site
+  grounds_law = record {
+    grounded = λ s. cond_both (is_layer_state m b s) (m.site (under s)) 0 (λ n. n < 4096) (λ t. law.grounds.grounded (under s)) (λ f. omega arith);
+    no_ground = λ s f. cond-false (is_layer_state m b s) (m.site (under s)) 0 f;
+  }
+
+  pub layered_lawful : Lawful (layered m b)
+  layered_lawful = record { states = states_law; moves = moves_law; shows = shows_law; grounds = grounds_law }
 
 -- whether the book fits or not, or there is none
 pub over_lawful : (m : Model) (o : Option Book) → Lawful m → IfSome o (λ b. length b.items ≤ 16) → Lawful (over m o)
@@ -174,4 +196,4 @@ layer_lawful m (Some w) law = over_lawful m (Some (contents w)) law (kept w).few
 
 -- the wish bits above a mask have room, where the book fits
 pub mask_room : (m : Model) (b : Book) → Lawful m → fits m b ≡ true → (s : ℕ) (vs : List Bool) → m.mask s + 2 ^ m.labels * bits_of_wishes b.wishes vs < 2 ^ 24
-mask_room m b law fit s vs = lt_of_lt_of_le (mask_grows m.labels (length b.wishes) (m.mask s) (bits_of_wishes b.wishes vs) (law.labelled s) (bits_below (wish_held vs) b.wishes)) (pow_mono (room m b fit).labels)
+mask_room m b law fit s vs = lt_of_lt_of_le (mask_grows m.labels (length b.wishes) (m.mask s) (bits_of_wishes b.wishes vs) (law.shows.labelled s) (bits_below (wish_held vs) b.wishes)) (pow_mono (room m b fit).labels)

@@ -1,7 +1,7 @@
-pub mod Judging
-pub mod Judged
-pub mod Layering
-pub mod Laying
+pub mod Verdicts
+pub mod BookAt
+pub mod Layered
+pub mod InMemory
 pub mod Records
 pub mod Books
 pub mod Lawfulness

@@ -1,14 +1,15 @@
 -- What a layer means along a history, by the truth lines alone: where it stands, what it shows and what it earns. The trace of a
 -- history has at each position what the model below shows there.
-use Rattle.std.specs.Prelude.{◌≡◌, ℕ, zero, suc, ◌+◌, ◌-◌, ◌*◌, ◌^◌, ◌<◌, ◌≤◌, Bool, true, not, List, map, length, get_or, take, ℤ, slice_index_or}
+use Rattle.std.specs.Prelude.{◌≡◌, ℕ, zero, suc, ◌+◌, ◌-◌, ◌*◌, ◌^◌, ◌<◌, ◌≤◌, Bool, IsTrue, not, List, map, length, get_or, take, ℤ, slice_index_or}
 use Rattle.formula.specs.declared.Item.{Item}
 use Rattle.formula.specs.declared.Item.TheVariants.{Held, Failed}
 use Rattle.formula.specs.declared.Node.{Node}
 use Rattle.formula.specs.Formulas.{truth, formulas}
+use Rattle.model.specs.Histories.{Shown}
 use Rattle.truth.specs.Truth.{Trace, labelled, before, holds}
 use Rattle.wishlayout.specs.declared.Wish.{Wish}
 use Rattle.wishbook.specs.Book.{Book, sound, items_over}
-use Rattle.layer.specs.Judging.{memory_of, bits_of_wishes, earned}
+use Rattle.layer.specs.Verdicts.{memory_of, bits_of_wishes, earned}
 
 -- the mask at each position of a history, where mask is what a history shows at its end
 abbrev pub trace_of : (List ℕ → ℕ) → List ℕ → Trace
@@ -36,9 +37,17 @@ mask_over labels mask b h = mask h + 2 ^ labels * bits_of_wishes b.wishes (truth
 abbrev pub reward_over : (List ℕ → ℕ) → (List ℕ → ℤ) → Book → List ℕ → ℤ
 reward_over mask reward b h = earned (reward h) b.wishes (truths b.nodes (trace_of mask h) (end_of h))
 
+-- what a history shows on a layer of the book, by what it shows on the model below, which has so many labels
+abbrev pub shown_over : ℕ → Book → Shown → Shown
+shown_over labels b sh = record {
+  mask = mask_over labels sh.mask b;
+  reward = reward_over sh.mask sh.reward b;
+  offered = sh.offered;
+}
+
 -- what every wish book in memory keeps
 pub record SoundBook (b : Book) : Type 0 where
-  pub names : sound b.nodes b.wishes ≡ true
+  pub names : IsTrue (sound b.nodes b.wishes)
   pub remembers : b.items ≡ items_over b.nodes b.wishes
   pub few : length b.items ≤ 16
 

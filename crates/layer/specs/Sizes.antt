@@ -7,8 +7,8 @@ use Rattle.std.proofs.lemmas.Int.{ints}
 use Rattle.std.proofs.lemmas.List.Sums.{sum_by-cons}
 use Rattle.wishlayout.specs.declared.Wish.{Wish}
 use Rattle.wishlayout.specs.Wishes.{amount}
-use Rattle.layer.specs.Judging.{bit, bits_of, wish_held, earned}
-use Rattle.layer.specs.Layering.{amounts}
+use Rattle.layer.specs.Verdicts.{bit, bits_of, wish_held, earned}
+use Rattle.layer.specs.Layered.{amounts}
 
 pub bit_below : (b : Bool) (m k : ℕ) → m < 2 ^ k → bit b + 2 * m < 2 ^ suc k
 bit_below true m k h = omega (arith, pow-suc 2 k)

@@ -1,7 +1,7 @@
 // What the wishes of a book are worth.
 ghost use Rattle.std.specs.Prelude.{◌≡◌};
 ghost use Rattle.wishbook.specs.Contents.{contents};
-ghost use Rattle.layer.specs.Layering.{amounts as amounts_of};
+ghost use Rattle.layer.specs.Layered.{amounts as amounts_of};
 
 use wishbook::WishBook;
 

@@ -2,20 +2,21 @@
 ghost use Rattle.std.specs.Prelude.{◌≡◌, None, MatchOption};
 ghost use Rattle.std.specs.Option.{option_map};
 ghost use Rattle.wishbook.specs.Contents.{contents};
-ghost use Rattle.layer.specs.Layering.{over, refusal as refusal_of};
-ghost use Rattle.layer.specs.Laying.{meaning_of, Lies, Bare, laid_in, memory_in};
+ghost use Rattle.layer.specs.Layered.{over, refusal as refusal_of};
+ghost use Rattle.layer.specs.InMemory.{meaning_of, Lies, Bare, laid_in, memory_in};
 ghost use Rattle.layer.specs.Lawfulness.{layer_lawful};
+ghost use Rattle.model.specs.Models.{sizes_of};
 
-use crate::over::{MEMORIES, Over};
+use crate::fitted::{Fitted, MEMORIES};
 use model::{Outcomes, SiteModel, Sizes};
 use refusal::Refusal;
 use wishbook::WishBook;
 
 // Why a book cannot be laid on a model, none where it can.
 pub fn refusal_on<M: SiteModel>(below: &M, book: &WishBook) -> Option<Refusal>
-    ensures { result ≡ refusal_of (M.SiteModel.meaning below.now) (contents book.now) }
+    ensures { result ≡ refusal_of (sizes_of (M.SiteModel.meaning below.now)) (contents book.now) }
 {
-    Over::new(below, book).err()
+    Fitted::new(below, book).err()
 }
 
 #[derive(Drop)]
@@ -36,9 +37,10 @@ impl<M: SiteModel> Layer<M> {
 
     // Why the book is not laid, where there is one and it is not.
     pub fn refusal(&self) -> Option<Refusal>
-        ensures { MatchOption self.now.book (result ≡ None) (λ book. result ≡ refusal_of (M.SiteModel.meaning self.now.below) (contents book)) }
+        ensures { MatchOption self.now.book (result ≡ None)
+            (λ book. result ≡ refusal_of (sizes_of (M.SiteModel.meaning self.now.below)) (contents book)) }
     {
-        Over::new(&self.below, self.book.as_ref()?).err()
+        Fitted::new(&self.below, self.book.as_ref()?).err()
     }
 
     // The model below.
@@ -48,12 +50,12 @@ impl<M: SiteModel> Layer<M> {
         &self.below
     }
 
-    // The layer over the model below, where the book can be laid.
-    fn over(&self) -> Option<Over<'_, M>>
+    // The book on the model below, where it fits.
+    fn fitted(&self) -> Option<Fitted<'_, M>>
         ensures book { option_map (λ o. contents o.book.now) result ≡ laid_in M.SiteModel.meaning self.now }
         ensures meaning { MatchOption result (Bare M.SiteModel.meaning self.now) (λ o. (o.below.now ≡ self.now.below) × Lies M.SiteModel.meaning self.now (contents o.book.now)) }
     {
-        Over::new(&self.below, self.book.as_ref()?).ok()
+        Fitted::new(&self.below, self.book.as_ref()?).ok()
     }
 
     // The book, where it is laid.
@@ -61,7 +63,7 @@ impl<M: SiteModel> Layer<M> {
         ensures book { option_map (λ b. contents b.now) result ≡ laid_in M.SiteModel.meaning self.now }
         ensures meaning { MatchOption result (Bare M.SiteModel.meaning self.now) (λ b. Lies M.SiteModel.meaning self.now (contents b.now)) }
     {
-        Some(self.over()?.book)
+        Some(self.fitted()?.book)
     }
 
     // The remembered bits in a state, where a book is laid.
@@ -75,8 +77,8 @@ impl<M: SiteModel> Layer<M> {
 // Every question goes to the layer where the book is laid, and else to the model below.
 macro_rules! answer {
     ($layer:ident.$question:ident($($of:expr),*)) => {
-        match $layer.over() {
-            Some(over) => over.$question($($of),*),
+        match $layer.fitted() {
+            Some(fitted) => fitted.$question($($of),*),
             None => $layer.below.$question($($of),*),
         }
     };

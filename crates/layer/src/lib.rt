@@ -3,14 +3,14 @@
 #![tactic(auto)]
 
 mod amounts;
-mod counts;
-mod fitting;
-mod judged;
-mod judging;
+mod book_at;
+mod fitted;
 mod layers;
-mod over;
+mod limits;
 mod recalled;
+mod remembering;
+mod verdicts;
 
-pub use counts::{remember, wish_bits};
-pub use judging::judge;
 pub use layers::{Layer, refusal_on};
+pub use remembering::{remember, wish_bits};
+pub use verdicts::judge;

@@ -1,6 +1,6 @@
 // What a memory recalls of the nodes: the items of a book, each with its bit.
 ghost use Rattle.std.specs.Prelude.{◌≡◌, ◌/◌, ◌%◌, ◌^◌, ◌==◌};
-ghost use Rattle.layer.specs.Judging.{recalled};
+ghost use Rattle.layer.specs.Verdicts.{recalled};
 
 use formula::Item;
 

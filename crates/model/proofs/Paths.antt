@@ -1,8 +1,9 @@
 -- A history stands at a state. Where a model unfolds a ground model, each history of the ground model has just one history above it.
-use Rattle.std.proofs.Common.{◌≡◌, ℕ, ◌-◌, ◌<◌, ◌≤◌, Bool, true, List, [], ◌∷◌, ◌++◌, map, length, get_or, sym, refl, ap, ◌∙◌, subst, append_assoc, arith}
+use Rattle.std.proofs.Common.{◌≡◌, ℕ, ◌+◌, ◌-◌, ◌<◌, ◌≤◌, Bool, true, List, [], ◌∷◌, ◌++◌, map, length, get_or, take, inl, inr, sym, refl, ap, ◌∙◌, subst, append_assoc, arith}
 use Rattle.std.specs.List.{Contains}
 use Rattle.std.proofs.lemmas.List.Elements.{Contains-get_or}
-use Rattle.std.proofs.lemmas.List.{length_push, get_or_push, length-map, get_or-map, map-append}
+use Rattle.std.proofs.lemmas.Bool.{cases_lt}
+use Rattle.std.proofs.lemmas.List.{length_push, get_or_push, length-map, get_or-map, map-append, take_all, take-append-le}
 use Rattle.model.specs.declared.Outcome.{Outcome}
 use Rattle.model.specs.Models.{Model, Lawful}
 use Rattle.model.specs.Histories.{final, targets_of, Shown, History, begun, onward, Path, along, Unfolds, grounds, OnePathAbove}
@@ -17,6 +18,20 @@ final-push h t =
 pub some_history : (g : Model) (offered : List ℕ → ℕ → Bool) (h : List ℕ) → History g offered h → 1 ≤ length h
 some_history g offered h begun = omega arith
 some_history g offered h (onward {h = before} a t hist off has) = omega (arith, length_push before t)
+
+-- a history by some offers is one by wider offers
+pub history_wider : (g : Model) (narrow wide : List ℕ → ℕ → Bool) → ((h : List ℕ) (a : ℕ) → narrow h a ≡ true → wide h a ≡ true) → (h : List ℕ) → History g narrow h → History g wide h
+history_wider g narrow wide more h begun = begun
+history_wider g narrow wide more h (onward {h = before} a t hist off has) = onward a t (history_wider g narrow wide more before hist) (more before a off) has
+
+-- a history up to an earlier position is one too
+pub history_take : (g : Model) (offered : List ℕ → ℕ → Bool) (h : List ℕ) → History g offered h → (i : ℕ) → i < length h → History g offered (take (i + 1) h)
+history_take g offered h begun i l = subst (History g offered) (sym (take_all (i + 1) (g.start ∷ []) (omega arith))) begun
+history_take g offered h (onward {h = before} a t hist off has) i l =
+    elim (cases_lt i (length before)) [
+      | inl less ↦ subst (History g offered) (sym (take-append-le (i + 1) before (t ∷ []) (omega arith))) (history_take g offered before hist i less)
+      | inr past ↦ subst (History g offered) (sym (take_all (i + 1) (before ++ (t ∷ [])) (omega (arith, length_push before t)))) (onward a t hist off has)
+    ]
 
 -- a history stands at a state, whatever narrows what is offered
 pub history_state : (g : Model) → Lawful g → (offered : List ℕ → ℕ → Bool) (h : List ℕ) → History g offered h → g.state (final h) ≡ true

@@ -5,18 +5,20 @@
 ghost use Rattle.std.specs.Prelude.{◌≡◌};
 ghost use Rattle.sitebook.specs.Contents.{contents};
 ghost use Rattle.writeout.specs.Copies.{by_origin};
-ghost use Rattle.outbook.specs.Lawful.{origin_lawful, origin_numbered};
+ghost use Rattle.writeout.proofs.Origins.{origin_lawful, origin_numbered};
 
 use model::{Numbered, Outcomes, SiteModel, Sizes};
 use sitebook::SiteBook;
 
+/// A site book with its origins for grounds: what is written out of a pile stands over the pile's
+/// ground model (docs/FORMATS.md, "Writing out").
 #[derive(Drop)]
 pub struct OriginBook {
     book: SiteBook,
 }
 
 impl OriginBook {
-    // By name and no `From`: it is another model, by its grounds.
+    /// Takes the book whole. By name and no `From`: it is another model, by its grounds.
     pub fn new(book: SiteBook) -> OriginBook
         ensures { result.book ≡ book }
     {
@@ -24,7 +26,8 @@ impl OriginBook {
     }
 }
 
-// Every question but that of the ground goes to the book; a trait's methods are handed on one by one, since there is no delegation.
+// Every question but that of the ground goes to the book; a trait's methods are handed on one by one,
+// since there is no delegation.
 impl SiteModel for OriginBook {
     ghost meaning = { λ o. by_origin (contents o.book) };
 

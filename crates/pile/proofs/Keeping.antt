@@ -1,64 +1,57 @@
 -- The promise about piles, from the laws of the ground model and the soundness of the books alone.
-use Rattle.std.proofs.Common.{◌≡◌, ℕ, ◌≤◌, Bool, true, false, cond, List, [], ◌∷◌, map, length, Some, None, sym, refl, ◌∙◌, subst}
-use Rattle.std.proofs.lemmas.Bool.{and_parts}
+use Rattle.std.proofs.Common.{◌≡◌, ℕ, Bool, true, false, cond, List, [], ◌∷◌, map, sym, refl, ◌∙◌, subst}
 use Rattle.std.proofs.lemmas.List.{map-id}
-use Rattle.formula.specs.Formulas.{earlier}
-use Rattle.model.specs.Histories.{final, along, Unfolds}
+use Rattle.model.specs.Histories.{final, by_itself, along, Unfolds}
 use Rattle.model.proofs.Paths.{final-push, history_state, one_path_above}
 use Rattle.model.specs.declared.Outcome.{Outcome}
 use Rattle.model.specs.Models.{Model, Lawful, Ground}
-use Rattle.words.specs.Tests.{all}
-use Rattle.wishbook.specs.Book.{Book, items_over}
-use Rattle.wishlayout.specs.Wishes.{good_wish}
-use Rattle.layer.specs.Layering.{fits, layered, over}
-use Rattle.layer.specs.Records.{code_over, mask_over, reward_over, SoundBook}
+use Rattle.layer.specs.Layered.{fits, layered}
+use Rattle.layer.specs.Records.{code_over, shown_over}
 use Rattle.layer.proofs.Unfolds.{layer_unfolds}
-use Rattle.pile.specs.Piles.{Floor, piled, Shown, on_ground, with_floor, with_floors, SoundFloor, SoundFloors, shown_on, Keeps}
+use Rattle.pile.specs.Piles.{Floor, bare, wishes, floor_over, piled, Piling, piling, Place, on_ground, with_floor, with_floors, SoundFloor, SoundFloors, Laid, place_on, shown_on, Keeps}
 
 map_keeps : (h : List ℕ) (os : List Outcome) → map (along final h) os ≡ os
 map_keeps h os = (λ i. map (λ o. record { target = final-push h o.target i; weight = o.weight }) os) ∙ map-id os
 
 -- a ground model unfolds itself
-ground_unfolds : (g : Model) → Lawful g → Ground g → Unfolds g g final (λ h. g.mask (final h)) (λ h. g.reward (final h))
+ground_unfolds : (g : Model) → Lawful g → Ground g → Unfolds g (by_itself g) g final
 ground_unfolds g law ground = record {
   first = refl;
-  states = history_state g law;
-  sites = λ h hist. ground.own (final h) (history_state g law h hist);
+  states = history_state g law (by_itself g).offered;
+  sites = λ h hist. ground.own (final h) (history_state g law (by_itself g).offered h hist);
   masks = λ h hist. refl;
   rewards = λ h hist. refl;
   offers = λ h hist a. refl;
-  moves = λ h hist a. sym (map_keeps h (g.outcomes (final h) a));
+  moves = λ h hist a off. sym (map_keeps h (g.outcomes (final h) a));
 }
 
--- a sound book on a model that unfolds the ground model
-pub sound_unfolds : (g m : Model) (sh : Shown) → Unfolds g m sh.code sh.mask sh.reward → (b : Book) → SoundBook b
-    → Unfolds g (layered m b) (code_over sh.code sh.mask b) (mask_over m.labels sh.mask b) (reward_over sh.mask sh.reward b)
-sound_unfolds g m sh u b ok =
-    let parts = and_parts (earlier b.nodes) (all (good_wish (length b.nodes)) b.wishes) ok.names in
-    let same : record { nodes = b.nodes; wishes = b.wishes; items = items_over b.nodes b.wishes } ≡ b = λ i. record { nodes = b.nodes; wishes = b.wishes; items = sym ok.remembers i } in
-    subst (λ x. Unfolds g (layered m x) (code_over sh.code sh.mask x) (mask_over m.labels sh.mask x) (reward_over sh.mask sh.reward x)) same
-    (layer_unfolds g m sh.code sh.mask sh.reward u b.nodes b.wishes parts.0 parts.1 (subst (λ l. length l ≤ 16) ok.remembers ok.few))
+abbrev UnfoldsAt : Model → Model → Place → Type 0
+UnfoldsAt g m at = Unfolds g at.shown m at.code
 
-abbrev UnfoldsBy : Model → Model → Shown → Type 0
-UnfoldsBy g m sh = Unfolds g m sh.code sh.mask sh.reward
-
-floor_unfolds : (g m : Model) (sh : Shown) (f : Floor) → SoundFloor f → UnfoldsBy g m sh → UnfoldsBy g (over m f) (with_floor m sh f)
-floor_unfolds g m sh None ok u = u
-floor_unfolds g m sh (Some b) ok u = by_fit (fits m b)
+floor_unfolds : (g m : Model) (at : Place) (f : Floor) → SoundFloor f → UnfoldsAt g m at → UnfoldsAt g (floor_over m f) (with_floor m at f)
+floor_unfolds g m at bare ok u = u
+floor_unfolds g m at (wishes b) ok u = by_fit (fits m b)
   where
-    by_fit : (t : Bool) → UnfoldsBy g (cond t (layered m b) m) (cond t (record { code = code_over sh.code sh.mask b; mask = mask_over m.labels sh.mask b; reward = reward_over sh.mask sh.reward b }) sh)
-    by_fit true = sound_unfolds g m sh u b ok
+    by_fit : (t : Bool) → UnfoldsAt g (cond t (layered m b) m) (cond t (record { code = code_over at.code at.shown.mask b; shown = shown_over m.labels b at.shown }) at)
+    by_fit true = layer_unfolds g at.shown m at.code u b ok
     by_fit false = u
 
-floors_unfold : (g m : Model) (sh : Shown) (fs : List Floor) → SoundFloors fs → UnfoldsBy g m sh → UnfoldsBy g (piled m fs) (with_floors m sh fs)
-floors_unfold g m sh [] ok u = u
-floors_unfold g m sh (f ∷ fs) ok u = floors_unfold g (over m f) (with_floor m sh f) fs ok.1 (floor_unfolds g m sh f ok.0 u)
+floors_unfold : (g m : Model) (at : Place) (fs : List Floor) → SoundFloors fs → UnfoldsAt g m at → UnfoldsAt g (piled m fs) (with_floors m at fs)
+floors_unfold g m at [] ok u = u
+floors_unfold g m at (f ∷ fs) ok u = floors_unfold g (floor_over m f) (with_floor m at f) fs ok.1 (floor_unfolds g m at f ok.0 u)
 
 -- the promise
-pub pile_keeps : (g : Model) → Lawful g → Ground g → (fs : List Floor) → SoundFloors fs → Keeps g fs
+pub pile_keeps : (g : Model) → Lawful g → Ground g → (fs : List Floor) → SoundFloors fs → Keeps (piling g fs)
 pile_keeps g law ground fs ok =
     let u = floors_unfold g g (on_ground g) fs ok (ground_unfolds g law ground) in
     record {
       unfolds = u;
-      one_path = one_path_above g (piled g fs) (shown_on g fs).code (shown_on g fs).mask (shown_on g fs).reward u;
+      one_path = one_path_above g (shown_on (piling g fs)) (piled g fs) (place_on (piling g fs)).code u;
     }
+
+-- a pile in memory is one of its floors on its ground model
+pub laid_is : (m : Model) (p : Piling) → Laid m p → piling p.base p.floors ≡ p
+laid_is m p l = λ i. record { base = p.base; floors = p.floors; model = sym l.stands i }
+
+pub laid_keeps : (m : Model) (p : Piling) → Laid m p → Keeps p
+laid_keeps m p l = subst Keeps (laid_is m p l) (pile_keeps p.base l.lawfully l.grounded p.floors l.sound)

@@ -1,4 +1,5 @@
 pub mod Keeping
+pub mod Towers
 pub mod Stacking
 pub mod Turns
 pub mod Telling

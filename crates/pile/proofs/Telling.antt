@@ -1,17 +1,17 @@
 -- What the states of a pile tell of each floor: from what a pile keeps, floor by floor, and the bits of one layer.
-use Rattle.std.proofs.Common.{◌≡◌, ℕ, zero, suc, ◌+◌, ◌-◌, ◌^◌, ◌<◌, ◌≤◌, Bool, true, false, not, cond, ltb, List, [], ◌∷◌, ◌++◌, map, length, get_or, take, filter, fold, ℤ, ◌+ℤ◌, Some, None, IsTrue, ◌↔◌, sym, refl, ap, ◌∙◌, subst, inl, inr, arith}
+use Rattle.std.proofs.Common.{◌≡◌, ℕ, zero, suc, ◌+◌, ◌-◌, ◌^◌, ◌<◌, ◌≤◌, Bool, true, false, not, cond, ltb, List, [], ◌∷◌, ◌++◌, map, length, get_or, take, filter, fold, ℤ, ◌+ℤ◌, Some, IsTrue, ◌↔◌, sym, refl, ap, ◌∙◌, subst, arith}
 use Rattle.std.specs.List.{slice_get}
-use Rattle.std.proofs.lemmas.Bool.{and_parts, cases_lt, cond-true, ltb-true, both_ways}
-use Rattle.std.proofs.lemmas.List.{length-map, take_all, take-append-le, take-map, length_push, get_or-take, get_or-map, length-take-le}
+use Rattle.std.proofs.lemmas.Bool.{and_parts, cond-true, ltb-true, both_ways}
+use Rattle.std.proofs.lemmas.List.{length-map, take-map, get_or-take, get_or-map, length-take-le}
 use Rattle.std.proofs.lemmas.Nat.{div-mul-add}
 use Rattle.std.proofs.lemmas.Option.{get_or_from_slice_get, slice_get_within}
 use Rattle.formula.specs.declared.Item.{Item}
 use Rattle.formula.specs.declared.Item.TheVariants.{Held, Failed}
 use Rattle.formula.specs.Formulas.{Formula, truth, formulas, earlier}
 use Rattle.formula.proofs.Trees.{length-formulas}
-use Rattle.model.specs.Histories.{final, History, begun, onward, grounds, Unfolds}
+use Rattle.model.specs.Histories.{final, by_itself, History, Path, grounds, Unfolds}
 use Rattle.model.specs.Models.{Model, Lawful, Ground}
-use Rattle.model.proofs.Paths.{some_history, under_one}
+use Rattle.model.proofs.Paths.{some_history, under_one, history_take, history_wider}
 use Rattle.truth.specs.Truth.{Trace, labelled, before, holds, Holds}
 use Rattle.truth.proofs.Plain.{plain_truth}
 use Rattle.truth.proofs.Unfolding.{holds_local}
@@ -19,33 +19,25 @@ use Rattle.words.specs.Tests.{all}
 use Rattle.wishbook.specs.Book.{Book}
 use Rattle.wishlayout.specs.declared.Wish.{Wish}
 use Rattle.wishlayout.specs.Wishes.{amount, good_wish}
-use Rattle.layer.specs.Judging.{item_held, wish_held, earned}
+use Rattle.layer.specs.Verdicts.{item_held, wish_held, earned}
 use Rattle.layer.specs.Lawfulness.{memory_packed, over_lawful}
-use Rattle.layer.specs.Layering.{fits, under, memory, layered, over}
-use Rattle.layer.specs.Records.{trace_of, end_of, truths, memory_at, code_over, mask_over, reward_over, tells, SoundBook}
+use Rattle.layer.specs.Layered.{fits, under, memory, layered, over}
+use Rattle.layer.specs.Records.{trace_of, end_of, truths, memory_at, code_over, shown_over, tells, SoundBook}
 use Rattle.layer.specs.Sizes.{bits_small}
 use Rattle.layer.proofs.Bits.{memory_tells, wishes_show, labels_stay}
-use Rattle.pile.specs.Piles.{Floor, piled, Shown, on_ground, with_floor, with_floors, SoundFloor, SoundFloors, shown_on}
+use Rattle.pile.specs.Piles.{Floor, bare, wishes, floor_over, piled, Piling, piling, Place, on_ground, with_floor, with_floors, SoundFloor, SoundFloors, Laid}
+use Rattle.layer.proofs.Unfolds.{layer_unfolds}
 use Rattle.pile.specs.Telling.{below_floor, state_below, memory_of_floor, masks_below, formula_at, Told, OneEarlier, wish_holds, FloorTells, BitsTell}
-use Rattle.pile.proofs.Keeping.{sound_unfolds, pile_keeps}
-
--- a history up to an earlier position is one too
-pub history_take : (m : Model) (h : List ℕ) → History m h → (i : ℕ) → i < length h → History m (take (i + 1) h)
-history_take m h begun i l = subst (History m) (sym (take_all (i + 1) (m.start ∷ []) (omega arith))) begun
-history_take m h (onward {h = before} a t hist off has) i l =
-    elim (cases_lt i (length before)) [
-      | inl less ↦ subst (History m) (sym (take-append-le (i + 1) before (t ∷ []) (omega arith))) (history_take m before hist i less)
-      | inr past ↦ subst (History m) (sym (take_all (i + 1) (before ++ (t ∷ [])) (omega (arith, length_push before t)))) (onward a t hist off has)
-    ]
+use Rattle.pile.proofs.Keeping.{pile_keeps, laid_is}
 
 -- floors on floors
-with_floors-append : (m : Model) (sh : Shown) (fs gs : List Floor) → with_floors m sh (fs ++ gs) ≡ with_floors (piled m fs) (with_floors m sh fs) gs
+with_floors-append : (m : Model) (sh : Place) (fs gs : List Floor) → with_floors m sh (fs ++ gs) ≡ with_floors (piled m fs) (with_floors m sh fs) gs
 with_floors-append m sh [] gs = refl
-with_floors-append m sh (f ∷ fs) gs = with_floors-append (over m f) (with_floor m sh f) fs gs
+with_floors-append m sh (f ∷ fs) gs = with_floors-append (floor_over m f) (with_floor m sh f) fs gs
 
 piled-append : (m : Model) (fs gs : List Floor) → piled m (fs ++ gs) ≡ piled (piled m fs) gs
 piled-append m [] gs = refl
-piled-append m (f ∷ fs) gs = piled-append (over m f) fs gs
+piled-append m (f ∷ fs) gs = piled-append (floor_over m f) fs gs
 
 sound_lower : (fs gs : List Floor) → SoundFloors (fs ++ gs) → SoundFloors fs
 sound_lower [] gs ok = tt
@@ -55,13 +47,13 @@ sound_upper : (fs gs : List Floor) → SoundFloors (fs ++ gs) → SoundFloors gs
 sound_upper [] gs ok = ok
 sound_upper (f ∷ fs) gs ok = sound_upper fs gs ok.1
 
-floor_lawful : (m : Model) (f : Floor) → SoundFloor f → Lawful m → Lawful (over m f)
-floor_lawful m None ok law = law
-floor_lawful m (Some b) ok law = over_lawful m (Some b) law ok.few
+floor_lawful : (m : Model) (f : Floor) → SoundFloor f → Lawful m → Lawful (floor_over m f)
+floor_lawful m bare ok law = law
+floor_lawful m (wishes b) ok law = over_lawful m (Some b) law ok.few
 
 piled_lawful : (m : Model) (fs : List Floor) → SoundFloors fs → Lawful m → Lawful (piled m fs)
 piled_lawful m [] ok law = law
-piled_lawful m (f ∷ fs) ok law = piled_lawful (over m f) fs ok.1 (floor_lawful m f ok.0 law)
+piled_lawful m (f ∷ fs) ok law = piled_lawful (floor_over m f) fs ok.1 (floor_lawful m f ok.0 law)
 
 -- a memory has 16 bits
 memory_small : (b : Book) → SoundBook b → (τ : Trace) (n : ℕ) → memory_at b τ n < 65536
@@ -69,43 +61,43 @@ memory_small b ok τ zero = omega arith
 memory_small b ok τ (suc n) = bits_small (item_held (truths b.nodes τ n)) b.items ok.few
 
 -- what a book that is laid makes of what is shown
-abbrev with_book : Model → Shown → Book → Shown
-with_book m sh b = record { code = code_over sh.code sh.mask b; mask = mask_over m.labels sh.mask b; reward = reward_over sh.mask sh.reward b }
+abbrev with_book : Model → Place → Book → Place
+with_book m sh b = record { code = code_over sh.code sh.shown.mask b; shown = shown_over m.labels b sh.shown }
 
 -- below the floors stands what the floors stand on
-code_below_floor : (m : Model) (sh : Shown) (f : Floor) → SoundFloor f → (h : List ℕ) → below_floor m f ((with_floor m sh f).code h) ≡ sh.code h
-code_below_floor m sh None ok h = refl
-code_below_floor m sh (Some b) ok h = by_fit (fits m b)
+code_below_floor : (m : Model) (sh : Place) (f : Floor) → SoundFloor f → (h : List ℕ) → below_floor m f ((with_floor m sh f).code h) ≡ sh.code h
+code_below_floor m sh bare ok h = refl
+code_below_floor m sh (wishes b) ok h = by_fit (fits m b)
   where
     by_fit : (t : Bool) → cond t (under ((cond t (with_book m sh b) sh).code h)) ((cond t (with_book m sh b) sh).code h) ≡ sh.code h
-    by_fit true = div-mul-add (sh.code h) 65536 (memory_at b (trace_of sh.mask h) (end_of h)) (memory_small b ok (trace_of sh.mask h) (end_of h))
+    by_fit true = div-mul-add (sh.code h) 65536 (memory_at b (trace_of sh.shown.mask h) (end_of h)) (memory_small b ok (trace_of sh.shown.mask h) (end_of h))
     by_fit false = refl
 
-code_below : (m : Model) (sh : Shown) (fs : List Floor) → SoundFloors fs → (h : List ℕ) → state_below m fs ((with_floors m sh fs).code h) ≡ sh.code h
+code_below : (m : Model) (sh : Place) (fs : List Floor) → SoundFloors fs → (h : List ℕ) → state_below m fs ((with_floors m sh fs).code h) ≡ sh.code h
 code_below m sh [] ok h = refl
-code_below m sh (f ∷ fs) ok h = ap (below_floor m f) (code_below (over m f) (with_floor m sh f) fs ok.1 h) ∙ code_below_floor m sh f ok.0 h
+code_below m sh (f ∷ fs) ok h = ap (below_floor m f) (code_below (floor_over m f) (with_floor m sh f) fs ok.1 h) ∙ code_below_floor m sh f ok.0 h
 
 -- upper floors leave the bits below
-more_labels : (m : Model) (f : Floor) → m.labels ≤ (over m f).labels
-more_labels m None = omega arith
-more_labels m (Some b) = by_fit (fits m b)
+more_labels : (m : Model) (f : Floor) → m.labels ≤ (floor_over m f).labels
+more_labels m bare = omega arith
+more_labels m (wishes b) = by_fit (fits m b)
   where
     by_fit : (t : Bool) → m.labels ≤ (cond t (layered m b) m).labels
     by_fit true = omega arith
     by_fit false = omega arith
 
-floor_mask : (m : Model) (sh : Shown) (f : Floor) (h : List ℕ) (q : ℕ) → q < m.labels → labelled ((with_floor m sh f).mask h) q ≡ labelled (sh.mask h) q
-floor_mask m sh None h q l = refl
-floor_mask m sh (Some b) h q l = by_fit (fits m b)
+floor_mask : (m : Model) (sh : Place) (f : Floor) (h : List ℕ) (q : ℕ) → q < m.labels → labelled ((with_floor m sh f).shown.mask h) q ≡ labelled (sh.shown.mask h) q
+floor_mask m sh bare h q l = refl
+floor_mask m sh (wishes b) h q l = by_fit (fits m b)
   where
-    by_fit : (t : Bool) → labelled ((cond t (with_book m sh b) sh).mask h) q ≡ labelled (sh.mask h) q
-    by_fit true = labels_stay b m.labels sh.mask h q l
+    by_fit : (t : Bool) → labelled ((cond t (with_book m sh b) sh).shown.mask h) q ≡ labelled (sh.shown.mask h) q
+    by_fit true = labels_stay b m.labels sh.shown.mask h q l
     by_fit false = refl
 
-floors_mask : (m : Model) (sh : Shown) (fs : List Floor) (h : List ℕ) (q : ℕ) → q < m.labels → labelled ((with_floors m sh fs).mask h) q ≡ labelled (sh.mask h) q
+floors_mask : (m : Model) (sh : Place) (fs : List Floor) (h : List ℕ) (q : ℕ) → q < m.labels → labelled ((with_floors m sh fs).shown.mask h) q ≡ labelled (sh.shown.mask h) q
 floors_mask m sh [] h q l = refl
 floors_mask m sh (f ∷ fs) h q l =
-    floors_mask (over m f) (with_floor m sh f) fs h q (omega (arith, more_labels m f)) ∙ floor_mask m sh f h q l
+    floors_mask (floor_over m f) (with_floor m sh f) fs h q (omega (arith, more_labels m f)) ∙ floor_mask m sh f h q l
 
 -- the Boolean of a memory bit as plain words
 before_plain : (n : ℕ) (P : ℕ → Bool) (Q : ℕ → Type 0) → ((j : ℕ) → j < n → IsTrue (P j) ↔ Q j) → IsTrue (before n P) ↔ OneEarlier n Q
@@ -142,72 +134,93 @@ held_same b τ n P same (w ∷ ws) ok =
     get_or-map (λ f. holds f τ n) (formulas b.nodes) w.node truth false (omega (arith, length-formulas b.nodes)) ∙ same w in
     λ i. cond (here i) (w ∷ held_same b τ n P same ws parts.1 i) (held_same b τ n P same ws parts.1 i)
 
-module _ (g : Model) (law : Lawful g) (own : Ground g) where
-  -- a path of a pile, by the history below it
-  path_below : (fs : List Floor) → SoundFloors fs → (p : List ℕ) → History (piled g fs) p → History g (grounds (piled g fs) p) × (final p ≡ (shown_on g fs).code (grounds (piled g fs) p))
-  path_below fs ok p path =
-      let down = under_one g (piled g fs) (shown_on g fs).code (shown_on g fs).mask (shown_on g fs).reward (pile_keeps g law own fs ok).unfolds p path in
-      subst (λ h. History g h × (final p ≡ (shown_on g fs).code h)) (sym down.1.1.1.1) (down.1.0, down.1.1.1.0)
+-- what a floor more offers, was offered before
+floor_narrows : (m : Model) (sh : Place) (f : Floor) (h : List ℕ) (a : ℕ) → (with_floor m sh f).shown.offered h a ≡ true → sh.shown.offered h a ≡ true
+floor_narrows m sh bare h a e = e
+floor_narrows m sh (wishes b) h a e = by_fit (fits m b) e
+  where
+    by_fit : (t : Bool) → (cond t (with_book m sh b) sh).shown.offered h a ≡ true → sh.shown.offered h a ≡ true
+    by_fit true e = e
+    by_fit false e = e
 
-  pub site_below : (fs : List Floor) → SoundFloors fs → (p : List ℕ) → History (piled g fs) p → state_below g fs (final p) ≡ (piled g fs).site (final p)
+floors_narrow : (m : Model) (sh : Place) (fs : List Floor) (h : List ℕ) (a : ℕ) → (with_floors m sh fs).shown.offered h a ≡ true → sh.shown.offered h a ≡ true
+floors_narrow m sh [] h a e = e
+floors_narrow m sh (f ∷ fs) h a e = floor_narrows m sh f h a (floors_narrow (floor_over m f) (with_floor m sh f) fs h a e)
+
+module _ (g : Model) (law : Lawful g) (own : Ground g) where
+  abbrev placed : List Floor → Place
+  placed fs = with_floors g (on_ground g) fs
+
+  -- a path of a pile, by the history below it
+  path_below : (fs : List Floor) → SoundFloors fs → (p : List ℕ) → Path (piled g fs) p → History g (placed fs).shown.offered (grounds (piled g fs) p) × (final p ≡ (placed fs).code (grounds (piled g fs) p))
+  path_below fs ok p path =
+      let down = under_one g (placed fs).shown (piled g fs) (placed fs).code (pile_keeps g law own fs ok).unfolds p path in
+      subst (λ h. History g (placed fs).shown.offered h × (final p ≡ (placed fs).code h)) (sym down.1.1.1.1) (down.1.0, down.1.1.1.0)
+
+  pub site_below : (fs : List Floor) → SoundFloors fs → (p : List ℕ) → Path (piled g fs) p → state_below g fs (final p) ≡ (piled g fs).site (final p)
   site_below fs ok p path =
       let down = path_below fs ok p path in
       ap (state_below g fs) down.1 ∙ code_below g (on_ground g) fs ok (grounds (piled g fs) p) ∙ sym (ap (piled g fs).site down.1 ∙ (pile_keeps g law own fs ok).unfolds.sites (grounds (piled g fs) p) down.0)
 
-  module _ (lower : List Floor) (b : Book) (upper : List Floor) (ok : SoundFloors (lower ++ (Some b ∷ upper))) (fit : fits (piled g lower) b ≡ true) where
+  module _ (lower : List Floor) (b : Book) (upper : List Floor) (ok : SoundFloors (lower ++ (wishes b ∷ upper))) (fit : fits (piled g lower) b ≡ true) where
     abbrev m : Model
     m = piled g lower
 
     abbrev all_floors : List Floor
-    all_floors = lower ++ (Some b ∷ upper)
+    all_floors = lower ++ (wishes b ∷ upper)
 
     abbrev pile : Model
     pile = piled g all_floors
 
-    abbrev sh : Shown
-    sh = shown_on g lower
+    abbrev sh : Place
+    sh = placed lower
 
-    abbrev whole : Shown
-    whole = shown_on g all_floors
+    abbrev whole : Place
+    whole = placed all_floors
 
     ok_lower : SoundFloors lower
-    ok_lower = sound_lower lower (Some b ∷ upper) ok
+    ok_lower = sound_lower lower (wishes b ∷ upper) ok
 
-    ok_upper : SoundFloors (Some b ∷ upper)
-    ok_upper = sound_upper lower (Some b ∷ upper) ok
+    ok_upper : SoundFloors (wishes b ∷ upper)
+    ok_upper = sound_upper lower (wishes b ∷ upper) ok
 
-    below : Unfolds g m sh.code sh.mask sh.reward
+    below : Unfolds g sh.shown m sh.code
     below = (pile_keeps g law own lower ok_lower).unfolds
 
-    above : Unfolds g pile whole.code whole.mask whole.reward
+    above : Unfolds g whole.shown pile whole.code
     above = (pile_keeps g law own all_floors ok).unfolds
 
-    whole_is : whole ≡ with_floors m sh (Some b ∷ upper)
-    whole_is = with_floors-append g (on_ground g) lower (Some b ∷ upper)
+    whole_is : whole ≡ with_floors m sh (wishes b ∷ upper)
+    whole_is = with_floors-append g (on_ground g) lower (wishes b ∷ upper)
 
-    abbrev laid : Shown
+    abbrev laid : Place
     laid = with_book m sh b
 
-    laid_is : with_floor m sh (Some b) ≡ laid
-    laid_is = cond-true (fits m b) laid sh fit
+    book_laid : with_floor m sh (wishes b) ≡ laid
+    book_laid = cond-true (fits m b) laid sh fit
 
-    code_lower : (h : List ℕ) → state_below m (Some b ∷ upper) (whole.code h) ≡ sh.code h
-    code_lower h = ap (λ (s : Shown). state_below m (Some b ∷ upper) (s.code h)) whole_is ∙ code_below m sh (Some b ∷ upper) ok_upper h
+    code_lower : (h : List ℕ) → state_below m (wishes b ∷ upper) (whole.code h) ≡ sh.code h
+    code_lower h = ap (λ (s : Place). state_below m (wishes b ∷ upper) (s.code h)) whole_is ∙ code_below m sh (wishes b ∷ upper) ok_upper h
 
-    code_here : (h : List ℕ) → state_below (over m (Some b)) upper (whole.code h) ≡ code_over sh.code sh.mask b h
+    code_here : (h : List ℕ) → state_below (over m (Some b)) upper (whole.code h) ≡ code_over sh.code sh.shown.mask b h
     code_here h =
-        ap (λ (s : Shown). state_below (over m (Some b)) upper (s.code h)) whole_is
-        ∙ code_below (over m (Some b)) (with_floor m sh (Some b)) upper ok_upper.1 h
-        ∙ ap (λ (s : Shown). s.code h) laid_is
+        ap (λ (s : Place). state_below (over m (Some b)) upper (s.code h)) whole_is
+        ∙ code_below (over m (Some b)) (with_floor m sh (wishes b)) upper ok_upper.1 h
+        ∙ ap (λ (s : Place). s.code h) book_laid
 
-    mask_below : (h : List ℕ) → History g h → m.mask (state_below m (Some b ∷ upper) (whole.code h)) ≡ sh.mask h
-    mask_below h hist = ap m.mask (code_lower h) ∙ below.masks h hist
+    -- what the whole pile offers along a history, the floors below offer
+    lower_history : (h : List ℕ) → History g whole.shown.offered h → History g sh.shown.offered h
+    lower_history h hist =
+        history_wider g whole.shown.offered sh.shown.offered (λ k a e. floors_narrow m sh (wishes b ∷ upper) k a (sym (ap (λ (s : Place). s.shown.offered k a) whole_is) ∙ e)) h hist
 
-    module _ (p : List ℕ) (path : History pile p) where
+    mask_below : (h : List ℕ) → History g whole.shown.offered h → m.mask (state_below m (wishes b ∷ upper) (whole.code h)) ≡ sh.shown.mask h
+    mask_below h hist = ap m.mask (code_lower h) ∙ below.masks h (lower_history h hist)
+
+    module _ (p : List ℕ) (path : Path pile p) where
       abbrev h : List ℕ
       h = grounds pile p
 
-      hist : History g h
+      hist : History g whole.shown.offered h
       hist = (path_below all_floors ok p path).0
 
       stands : final p ≡ whole.code h
@@ -217,53 +230,53 @@ module _ (g : Model) (law : Lawful g) (own : Ground g) where
       same_end = ap (λ k. k - 1) (length-map p pile.site)
 
       abbrev shown : Trace
-      shown = masks_below m (Some b ∷ upper) p
+      shown = masks_below m (wishes b ∷ upper) p
 
       -- the record that the floors below show is that of the history
-      shown_is : (i : ℕ) → i < length p → shown i ≡ trace_of sh.mask h i
+      shown_is : (i : ℕ) → i < length p → shown i ≡ trace_of sh.shown.mask h i
       shown_is i l =
-          let down = path_below all_floors ok (take (i + 1) p) (history_take pile p path i l) in
+          let down = path_below all_floors ok (take (i + 1) p) (history_take pile (by_itself pile).offered p path i l) in
           let last : final (take (i + 1) p) ≡ get_or p i 0 =
           ap (λ k. get_or (take (i + 1) p) k 0) (the_last i l) ∙ get_or-take (i + 1) p i 0 (omega arith) in
-          ap (λ s. m.mask (state_below m (Some b ∷ upper) s)) (sym last ∙ down.1)
+          ap (λ s. m.mask (state_below m (wishes b ∷ upper) s)) (sym last ∙ down.1)
           ∙ mask_below (grounds pile (take (i + 1) p)) down.0
-          ∙ ap sh.mask (sym (take-map pile.site (i + 1) p))
+          ∙ ap sh.shown.mask (sym (take-map pile.site (i + 1) p))
         where
           the_last : (i : ℕ) → i < length p → length (take (i + 1) p) - 1 ≡ i
           the_last i l = omega (arith, length-take-le (i + 1) p (omega arith))
 
       some : 1 ≤ length p
-      some = some_history pile p path
+      some = some_history pile (by_itself pile).offered p path
 
-      truth_is : (f : Formula) (j : ℕ) → j < length p → holds f (trace_of sh.mask h) j ≡ holds f shown j
-      truth_is f j l = holds_local f (trace_of sh.mask h) shown j (λ i le. sym (shown_is i (omega arith)))
+      truth_is : (f : Formula) (j : ℕ) → j < length p → holds f (trace_of sh.shown.mask h) j ≡ holds f shown j
+      truth_is f j l = holds_local f (trace_of sh.shown.mask h) shown j (λ i le. sym (shown_is i (omega arith)))
 
-      tells_is : (x : Item) (j : ℕ) → j < length p → tells b.nodes (trace_of sh.mask h) x j ≡ tells b.nodes shown x j
+      tells_is : (x : Item) (j : ℕ) → j < length p → tells b.nodes (trace_of sh.shown.mask h) x j ≡ tells b.nodes shown x j
       tells_is (Held i) j l = truth_is (formula_at b i) j l
       tells_is (Failed i) j l = ap not (truth_is (formula_at b i) j l)
 
-      memory_is : memory_of_floor m b upper (final p) ≡ memory_at b (trace_of sh.mask h) (end_of p)
+      memory_is : memory_of_floor m b upper (final p) ≡ memory_at b (trace_of sh.shown.mask h) (end_of p)
       memory_is =
           ap (memory_of_floor m b upper) stands
           ∙ ap memory (code_here h)
-          ∙ memory_packed (sh.code h) (memory_at b (trace_of sh.mask h) (end_of h)) (memory_small b ok_upper.0 (trace_of sh.mask h) (end_of h))
-          ∙ ap (memory_at b (trace_of sh.mask h)) same_end
+          ∙ memory_packed (sh.code h) (memory_at b (trace_of sh.shown.mask h) (end_of h)) (memory_small b ok_upper.0 (trace_of sh.shown.mask h) (end_of h))
+          ∙ ap (memory_at b (trace_of sh.shown.mask h)) same_end
 
       memory_bit : (k : ℕ) (x : Item) → slice_get b.items k ≡ Some x → IsTrue (labelled (memory_of_floor m b upper (final p)) k) ↔ OneEarlier (end_of p) (Told b shown x)
       memory_bit k x here =
           let n = end_of p in
-          let is : labelled (memory_of_floor m b upper (final p)) k ≡ before n (tells b.nodes (trace_of sh.mask h) x) =
+          let is : labelled (memory_of_floor m b upper (final p)) k ≡ before n (tells b.nodes (trace_of sh.shown.mask h) x) =
           ap (λ s. labelled s k) memory_is
-          ∙ memory_tells b ok_upper.0 (trace_of sh.mask h) n k (slice_get_within b.items k x here)
-          ∙ ap (λ y. before n (tells b.nodes (trace_of sh.mask h) y)) (get_or_from_slice_get b.items k x (Held 0) here) in
+          ∙ memory_tells b ok_upper.0 (trace_of sh.shown.mask h) n k (slice_get_within b.items k x here)
+          ∙ ap (λ y. before n (tells b.nodes (trace_of sh.shown.mask h) y)) (get_or_from_slice_get b.items k x (Held 0) here) in
           subst (λ t. IsTrue t ↔ OneEarlier n (Told b shown x)) (sym is)
-          (before_plain n (tells b.nodes (trace_of sh.mask h) x) (Told b shown x) (λ j l. subst (λ t. IsTrue t ↔ Told b shown x j) (sym (tells_is x j (omega (arith, some)))) (told_plain b shown x j)))
+          (before_plain n (tells b.nodes (trace_of sh.shown.mask h) x) (Told b shown x) (λ j l. subst (λ t. IsTrue t ↔ Told b shown x j) (sym (tells_is x j (omega (arith, some)))) (told_plain b shown x j)))
 
-      mask_is : pile.mask (final p) ≡ (with_floors m sh (Some b ∷ upper)).mask h
-      mask_is = ap pile.mask stands ∙ above.masks h hist ∙ ap (λ (s : Shown). s.mask h) whole_is
+      mask_is : pile.mask (final p) ≡ (with_floors m sh (wishes b ∷ upper)).shown.mask h
+      mask_is = ap pile.mask stands ∙ above.masks h hist ∙ ap (λ (s : Place). s.shown.mask h) whole_is
 
-      low : sh.mask h < 2 ^ m.labels
-      low = subst (λ k. k < 2 ^ m.labels) (mask_below h hist) ((piled_lawful g lower ok_lower law).labelled (state_below m (Some b ∷ upper) (whole.code h)))
+      low : sh.shown.mask h < 2 ^ m.labels
+      low = subst (λ k. k < 2 ^ m.labels) (mask_below h hist) ((piled_lawful g lower ok_lower law).shows.labelled (state_below m (wishes b ∷ upper) (whole.code h)))
 
       wish_bit : (k : ℕ) (w : Wish) → slice_get b.wishes k ≡ Some w → IsTrue (labelled (pile.mask (final p)) (m.labels + k)) ↔ Holds (formula_at b w.node) shown (end_of p)
       wish_bit k w here =
@@ -271,40 +284,43 @@ module _ (g : Model) (law : Lawful g) (own : Ground g) where
           let room : (over m (Some b)).labels ≡ m.labels + length b.wishes = ap (λ (x : Model). x.labels) (cond-true (fits m b) (layered m b) m fit) in
           let is : labelled (pile.mask (final p)) (m.labels + k) ≡ holds (formula_at b w.node) shown (end_of p) =
           ap (λ x. labelled x (m.labels + k)) mask_is
-          ∙ floors_mask (over m (Some b)) (with_floor m sh (Some b)) upper h (m.labels + k) (omega (arith, room, inside))
-          ∙ ap (λ (s : Shown). labelled (s.mask h) (m.labels + k)) laid_is
-          ∙ wishes_show b ok_upper.0 m.labels sh.mask h k w low inside
-          ∙ ap (λ (y : Wish). holds (formula_at b y.node) (trace_of sh.mask h) (end_of h)) (get_or_from_slice_get b.wishes k w w here)
-          ∙ ap (holds (formula_at b w.node) (trace_of sh.mask h)) same_end
+          ∙ floors_mask (over m (Some b)) (with_floor m sh (wishes b)) upper h (m.labels + k) (omega (arith, room, inside))
+          ∙ ap (λ (s : Place). labelled (s.shown.mask h) (m.labels + k)) book_laid
+          ∙ wishes_show b ok_upper.0 m.labels sh.shown.mask h k w low inside
+          ∙ ap (λ (y : Wish). holds (formula_at b y.node) (trace_of sh.shown.mask h) (end_of h)) (get_or_from_slice_get b.wishes k w w here)
+          ∙ ap (holds (formula_at b w.node) (trace_of sh.shown.mask h)) same_end
           ∙ truth_is (formula_at b w.node) (end_of p) (omega (arith, some)) in
           subst (λ t. IsTrue t ↔ Holds (formula_at b w.node) shown (end_of p)) (sym is) (plain_truth (formula_at b w.node) shown (end_of p))
 
-      label_bit : (q : ℕ) → q < m.labels → labelled (pile.mask (final p)) q ≡ labelled (m.mask (state_below m (Some b ∷ upper) (final p))) q
+      label_bit : (q : ℕ) → q < m.labels → labelled (pile.mask (final p)) q ≡ labelled (m.mask (state_below m (wishes b ∷ upper) (final p))) q
       label_bit q l =
           ap (λ x. labelled x q) mask_is
-          ∙ floors_mask m sh (Some b ∷ upper) h q l
-          ∙ ap (λ x. labelled x q) (sym (ap (λ s. m.mask (state_below m (Some b ∷ upper) s)) stands ∙ mask_below h hist))
+          ∙ floors_mask m sh (wishes b ∷ upper) h q l
+          ∙ ap (λ x. labelled x q) (sym (ap (λ s. m.mask (state_below m (wishes b ∷ upper) s)) stands ∙ mask_below h hist))
 
-      reward_is : (over m (Some b)).reward (state_below (over m (Some b)) upper (final p)) ≡ fold ◌+ℤ◌ (m.reward (state_below m (Some b ∷ upper) (final p))) (map amount (filter (wish_holds b shown (end_of p)) b.wishes))
+      reward_is : (over m (Some b)).reward (state_below (over m (Some b)) upper (final p)) ≡ fold ◌+ℤ◌ (m.reward (state_below m (wishes b ∷ upper) (final p))) (map amount (filter (wish_holds b shown (end_of p)) b.wishes))
       reward_is =
           let parts = and_parts (earlier b.nodes) (all (good_wish (length b.nodes)) b.wishes) ok_upper.0.names in
-          let start : m.reward (state_below m (Some b ∷ upper) (final p)) ≡ sh.reward h =
-          ap (λ s. m.reward (state_below m (Some b ∷ upper) s)) stands ∙ ap m.reward (code_lower h) ∙ below.rewards h hist in
-          let held = held_same b (trace_of sh.mask h) (end_of h) (wish_holds b shown (end_of p))
-          (λ w. ap (holds (formula_at b w.node) (trace_of sh.mask h)) same_end ∙ truth_is (formula_at b w.node) (end_of p) (omega (arith, some))) b.wishes parts.1 in
+          let start : m.reward (state_below m (wishes b ∷ upper) (final p)) ≡ sh.shown.reward h =
+          ap (λ s. m.reward (state_below m (wishes b ∷ upper) s)) stands ∙ ap m.reward (code_lower h) ∙ below.rewards h (lower_history h hist) in
+          let held = held_same b (trace_of sh.shown.mask h) (end_of h) (wish_holds b shown (end_of p))
+          (λ w. ap (holds (formula_at b w.node) (trace_of sh.shown.mask h)) same_end ∙ truth_is (formula_at b w.node) (end_of p) (omega (arith, some))) b.wishes parts.1 in
           ap (λ s. (over m (Some b)).reward (state_below (over m (Some b)) upper s)) stands
           ∙ ap (over m (Some b)).reward (code_here h)
-          ∙ ap (λ (x : Model). x.reward (code_over sh.code sh.mask b h)) (cond-true (fits m b) (layered m b) m fit)
-          ∙ (sound_unfolds g m sh below b ok_upper.0).rewards h hist
-          ∙ earned_filter (sh.reward h) b.wishes (truths b.nodes (trace_of sh.mask h) (end_of h))
+          ∙ ap (λ (x : Model). x.reward (code_over sh.code sh.shown.mask b h)) (cond-true (fits m b) (layered m b) m fit)
+          ∙ (layer_unfolds g sh.shown m sh.code below b ok_upper.0).rewards h (lower_history h hist)
+          ∙ earned_filter (sh.shown.reward h) b.wishes (truths b.nodes (trace_of sh.shown.mask h) (end_of h))
           ∙ (λ i. fold ◌+ℤ◌ (sym start i) (map amount (held i)))
 
       pub floor_tells : FloorTells m b upper pile p
       floor_tells = record { memory = memory_bit; wishes = wish_bit; labels = label_bit; reward = reward_is }
 
-  pub bits_tell : (fs : List Floor) → SoundFloors fs → BitsTell g fs
-  bits_tell fs ok = record {
+  bits_on : (fs : List Floor) → SoundFloors fs → BitsTell (piling g fs)
+  bits_on fs ok = record {
     site = site_below fs ok;
     floors = λ lower b upper is fit p path.
-        subst (λ gs. (p : List ℕ) → History (piled g gs) p → FloorTells (piled g lower) b upper (piled g gs) p) (sym is) (floor_tells lower b upper (subst SoundFloors is ok) fit) p path;
+        subst (λ gs. (p : List ℕ) → Path (piled g gs) p → FloorTells (piled g lower) b upper (piled g gs) p) (sym is) (floor_tells lower b upper (subst SoundFloors is ok) fit) p path;
   }
+
+pub bits_tell : (m : Model) (p : Piling) → Laid m p → BitsTell p
+bits_tell m p l = subst BitsTell (laid_is m p l) (bits_on p.base l.lawfully l.grounded p.floors l.sound)

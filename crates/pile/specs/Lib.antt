@@ -1,4 +1,5 @@
 pub mod Piles
+pub mod Floors
 pub mod Pushing
 pub mod Stacks
 pub mod Skipping

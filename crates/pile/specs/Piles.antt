@@ -1,63 +1,83 @@
 -- A pile is a ground model with floors laid on it, one after another. What a history of the ground model shows and earns on a pile is
 -- said by the truth lines, floor by floor: an upper book reads the wishes below it as labels.
-use Rattle.std.specs.Prelude.{◌≡◌, ℕ, cond, List, [], ◌∷◌, ℤ, Some, None, Option}
-use Rattle.model.specs.Histories.{final, Unfolds, OnePathAbove}
+use Rattle.std.specs.Prelude.{◌≡◌, ℕ, if◌then◌else◌, List, [], ◌∷◌, Some}
+use Rattle.model.specs.Histories.{final, Shown, by_itself, Unfolds, OnePathAbove}
 use Rattle.model.specs.Models.{Model, Lawful, Ground}
 use Rattle.wishbook.specs.Book.{Book}
-use Rattle.layer.specs.Layering.{fits, over}
-use Rattle.layer.specs.Records.{code_over, mask_over, reward_over, SoundBook}
+use Rattle.layer.specs.Layered.{fits, over}
+use Rattle.layer.specs.Records.{code_over, shown_over, SoundBook}
 
--- a floor is a wish book, or none
-abbrev pub Floor : Type 0
-Floor = Option Book
+-- a floor: nothing, or a wish book
+pub data Floor : Type 0 where
+  bare : Floor
+  wishes : Book → Floor
+
+-- a floor on a model; where there is nothing, or the book does not fit, the model below answers
+abbrev pub floor_over : Model → Floor → Model
+floor_over m bare = m
+floor_over m (wishes b) = over m (Some b)
 
 -- the floors laid on a model, the lowest first
 abbrev pub piled : Model → List Floor → Model
 piled m [] = m
-piled m (f ∷ fs) = piled (over m f) fs
+piled m (f ∷ fs) = piled (floor_over m f) fs
 
--- what a history stands at, shows and earns
-pub record Shown : Type 0 where
+-- a pile: its ground model, its floors, the lowest first, and what it means
+pub record Piling : Type 0 where
+  pub base : Model
+  pub floors : List Floor
+  pub model : Model
+
+-- these floors on a ground model
+abbrev pub piling : Model → List Floor → Piling
+piling g fs = record { base = g; floors = fs; model = piled g fs }
+
+-- where a history stands, and what it shows there
+pub record Place : Type 0 where
   pub code : List ℕ → ℕ
-  pub mask : List ℕ → ℕ
-  pub reward : List ℕ → ℤ
+  pub shown : Shown
 
--- on the ground model: its last state
-abbrev pub on_ground : Model → Shown
-on_ground g = record { code = final; mask = λ h. g.mask (final h); reward = λ h. g.reward (final h) }
+-- on the ground model: at its last state
+abbrev pub on_ground : Model → Place
+on_ground g = record { code = final; shown = by_itself g }
 
 -- with one floor more on the model m: a book that fits is judged by the truth lines
-abbrev pub with_floor : Model → Shown → Floor → Shown
-with_floor m sh None = sh
-with_floor m sh (Some b) =
-    cond (fits m b)
-    (record { code = code_over sh.code sh.mask b; mask = mask_over m.labels sh.mask b; reward = reward_over sh.mask sh.reward b })
-    sh
+abbrev pub with_floor : Model → Place → Floor → Place
+with_floor m at bare = at
+with_floor m at (wishes b) =
+    if fits m b
+    then record { code = code_over at.code at.shown.mask b; shown = shown_over m.labels b at.shown }
+    else at
 
-abbrev pub with_floors : Model → Shown → List Floor → Shown
-with_floors m sh [] = sh
-with_floors m sh (f ∷ fs) = with_floors (over m f) (with_floor m sh f) fs
+abbrev pub with_floors : Model → Place → List Floor → Place
+with_floors m at [] = at
+with_floors m at (f ∷ fs) = with_floors (floor_over m f) (with_floor m at f) fs
 
 abbrev pub SoundFloor : Floor → Type 0
-SoundFloor None = Unit {0}
-SoundFloor (Some b) = SoundBook b
+SoundFloor bare = Unit {0}
+SoundFloor (wishes b) = SoundBook b
 
 abbrev pub SoundFloors : List Floor → Type 0
 SoundFloors [] = Unit {0}
 SoundFloors (f ∷ fs) = SoundFloor f × SoundFloors fs
 
--- a pile of the model m: sound floors laid on a lawful ground model
-pub record Laid (m : Model) (base : Model) (floors : List Floor) : Type 0 where
-  pub stands : m ≡ piled base floors
-  pub lawfully : Lawful base
-  pub grounded : Ground base
-  pub sound : SoundFloors floors
+-- a pile means sound floors laid on a lawful ground model
+pub record Laid (m : Model) (p : Piling) : Type 0 where
+  pub means : m ≡ p.model
+  pub stands : p.model ≡ piled p.base p.floors
+  pub lawfully : Lawful p.base
+  pub grounded : Ground p.base
+  pub sound : SoundFloors p.floors
 
-abbrev pub shown_on : Model → List Floor → Shown
-shown_on g fs = with_floors g (on_ground g) fs
+-- where a history stands on a pile, and what it shows there
+abbrev pub place_on : Piling → Place
+place_on p = with_floors p.base (on_ground p.base) p.floors
+
+abbrev pub shown_on : Piling → Shown
+shown_on p = (place_on p).shown
 
 -- the promise: after every history of the ground model the pile stands where the truth lines say, shows and earns what they say, and
--- each history has just one above it, with the ground's actions, outcome order and weights
-pub record Keeps (g : Model) (fs : List Floor) : Type 0 where
-  pub unfolds : Unfolds g (piled g fs) (shown_on g fs).code (shown_on g fs).mask (shown_on g fs).reward
-  pub one_path : OnePathAbove g (piled g fs)
+-- each history has just one path of the pile above it, with the ground's actions, outcome order and weights
+pub record Keeps (p : Piling) : Type 0 where
+  pub unfolds : Unfolds p.base (shown_on p) p.model (place_on p).code
+  pub one_path : OnePathAbove p.base (shown_on p) p.model

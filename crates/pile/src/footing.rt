@@ -1,18 +1,15 @@
 // A pile by its ground model and its floors, and a ground model as a pile with no floor.
-ghost use Rattle.std.specs.Prelude.{◌≡◌, List, []};
-ghost use Rattle.model.specs.Models.{Model};
-ghost use Rattle.pile.specs.Piles.{Floor, Laid};
-ghost use Rattle.pile.specs.Pushing.{laid_bare};
+ghost use Rattle.std.specs.Prelude.{◌≡◌};
+ghost use Rattle.pile.specs.Piles.{Laid, Piling};
+ghost use Rattle.pile.specs.Pushing.{grounding, laid_bare};
 
 use model::{GroundModel, Outcomes, SiteModel, Sizes};
 
 // What a pile is, whatever its type: floors laid on a ground model.
 pub trait Pile: SiteModel {
-    ghost base: { Self → Model };
+    ghost piling: { Self → Piling };
 
-    ghost floors: { Self → List Floor };
-
-    ghost laid: { (p : Self) → Laid (Self.SiteModel.meaning p) (base p) (floors p) };
+    ghost laid: { (p : Self) → Laid (Self.SiteModel.meaning p) (piling p) };
 }
 
 // A ground model, whoever wrote it, as the bottom of a pile. It is a type of its own, since an `impl Pile` for every ground model would
@@ -70,9 +67,7 @@ impl<G: GroundModel> SiteModel for Footing<G> {
 }
 
 impl<G: GroundModel> Pile for Footing<G> {
-    ghost base = { λ f. G.SiteModel.meaning f.bottom };
-
-    ghost floors = { λ f. [] };
+    ghost piling = { λ f. grounding (G.SiteModel.meaning f.bottom) };
 
     ghost laid = { λ f. laid_bare (G.SiteModel.meaning f.bottom) (G.SiteModel.lawful f.bottom) (G.GroundModel.based f.bottom) };
 }

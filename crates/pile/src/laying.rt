@@ -2,8 +2,8 @@
 ghost use Rattle.std.specs.Prelude.{◌≡◌, Some, None, IfOk, IfErr, OnOk, slice_get};
 ghost use Rattle.pile.specs.Stacks.{ground_of, floors_of, floor_refusal, why_not, floor_at, AllLaid, IsFirstRefused, HasFloors, IsPileOf};
 
-use crate::build::Three;
 use crate::footing::Footing;
+use crate::tower::Three;
 use layer::{Layer, refusal_on};
 use model::{GroundModel, SiteModel};
 use refusal::Refusal;

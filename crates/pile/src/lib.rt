@@ -2,15 +2,17 @@
 
 #![tactic(auto)]
 
-mod build;
-mod floors;
+mod floor;
 mod footing;
 mod laying;
 mod promise;
+mod raised;
 mod skipping;
+mod tower;
 
-pub use build::{Three, stack};
+pub use floor::Floor;
 pub use footing::{Footing, Pile};
 pub use laying::{Unlaid, lay_all, refusals};
 pub use promise::start_of;
 pub use skipping::{Built, lay_each};
+pub use tower::{Three, Tower};

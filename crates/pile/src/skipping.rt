@@ -1,10 +1,10 @@
 // Laying every book that can be laid, and leaving out the others.
 ghost use Rattle.std.specs.Prelude.{◌≡◌, IfOk};
 ghost use Rattle.pile.specs.Skipping.{HasLaid, Judges};
-ghost use Rattle.pile.specs.Stacks.{ground_of, why_not, floors_in, IsPileOf};
+ghost use Rattle.pile.specs.Stacks.{ground_of, why_not, books_as_floors, IsPileOf};
 
-use crate::build::Three;
 use crate::footing::Footing;
+use crate::tower::Three;
 use layer::{Layer, refusal_on};
 use model::{GroundModel, SiteModel};
 use refusal::Refusal;
@@ -48,7 +48,7 @@ pub fn lay_each<G: GroundModel + Drop>(
     ensures books { IfOk result (λ b. HasLaid (G.SiteModel.meaning bottom) books.now b.pile) }
     ensures meaning { IfOk result (λ b. IsPileOf G.SiteModel.meaning bottom books.now b.pile) }
     ensures refusals { IfOk result
-        (λ b. b.refusals.items ≡ why_not (G.SiteModel.meaning bottom) (floors_in books.now)) }
+        (λ b. b.refusals.items ≡ why_not (G.SiteModel.meaning bottom) (books_as_floors books.now)) }
 {
     let mut refusals = Vec::new(heap);
     let ground = Footing::new(bottom);

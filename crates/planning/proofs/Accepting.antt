@@ -1,21 +1,35 @@
--- Sizes that are not refused. For others: `accepted`, that they are refused for no value, and `accepted_short`, the horizon.
-use Rattle.std.proofs.Common.{◌≡◌, ℕ, ◌≤◌, Bool, true, false, cond, leb, Ok, Err, Result, refl, sym, arith}
-use Rattle.std.proofs.lemmas.Bool.{leb-true}
+-- Sizes that are not refused. For others: `unrefused` and `refused_by`, what an answer tells of why it is refused; `sizes_pass`, what
+-- sizes that are not refused pass; `accepted`, that they are refused for no value; `accepted_short`, the horizon.
+use Rattle.std.proofs.Common.{◌≡◌, ℕ, ◌+◌, ◌*◌, ◌≤◌, true, [], ◌∷◌, leb, Ok, Err, Some, None, Option, Result, refl, sym, ap, arith}
+use Rattle.std.proofs.lemmas.Bool.{leb-true, and_parts}
 use Rattle.refusal.specs.declared.Refusal.{Refusal}
 use Rattle.refusal.specs.declared.Refusal.TheVariants.{HorizonTooLong, PlanTableShort}
-use Rattle.planning.specs.Plans.{tables_hold, unless_refused}
+use Rattle.refusal.specs.Rows.{unless}
+use Rattle.refusal.proofs.Rows.{passed}
+use Rattle.planning.specs.Plans.{tables_hold, sizes_refusal}
 
--- both tests are passed
-passed : (x y : Bool) → ◌≡◌ {A = Result (Unit {0}) Refusal} (Ok tt) (cond x (cond y (Ok tt) (Err PlanTableShort)) (Err HorizonTooLong)) → (x ≡ true) × (y ≡ true)
-passed true true is = (refl, refl)
-passed true false is = let z : ◌≡◌ {A = ℕ} 0 1 = cc in absurd (omega arith)
-passed false y is = let z : ◌≡◌ {A = ℕ} 0 1 = cc in absurd (omega arith)
+-- a value is answered only where nothing is refused, and a refusal only where it is the one
+pub unrefused : {V : Type 0} (why : Option Refusal) (v w : V) → unless why v ≡ Ok w → why ≡ None
+unrefused None v w is = refl
+unrefused (Some r) v w is = let z : ◌≡◌ {A = ℕ} 0 1 = cc in absurd (omega arith)
 
-module _ (s h a b : ℕ) (is : ◌≡◌ {A = Result (Unit {0}) Refusal} (Ok tt) (unless_refused tt s h a b)) where
-  pub accepted : {V : Type 0} (v : V) → Ok v ≡ unless_refused v s h a b
-  accepted v =
-      let both = passed (leb h 12) (tables_hold s h a b) is in
-      (λ i. cond (sym both.0 i) (cond (sym both.1 i) (Ok v) (Err PlanTableShort)) (Err HorizonTooLong))
+pub refused_by : {V : Type 0} (why : Option Refusal) (v : V) (r : Refusal) → unless why v ≡ Err r → why ≡ Some r
+refused_by None v r is = let z : ◌≡◌ {A = ℕ} 0 1 = cc in absurd (omega arith)
+refused_by (Some q) v r is = let same : q ≡ r = cc in ap Some same
 
-  pub accepted_short : h ≤ 12
-  accepted_short = leb-true h 12 (passed (leb h 12) (tables_hold s h a b) is).0
+module _ (s h a b : ℕ) where
+  -- a horizon of at most twelve slots, and room for all places in both tables
+  pub sizes_pass : sizes_refusal s h a b ≡ None → (h ≤ 12) × (((h + 1) * s ≤ a) × (h * s ≤ b))
+  sizes_pass none =
+      let rows = (leb h 12, HorizonTooLong) ∷ ((tables_hold s h a b, PlanTableShort) ∷ []) in
+      let short : leb h 12 ≡ true = passed rows none 0 (leb h 12, HorizonTooLong) refl in
+      let hold : tables_hold s h a b ≡ true = passed rows none 1 (tables_hold s h a b, PlanTableShort) refl in
+      let both = and_parts (leb ((h + 1) * s) a) (leb (h * s) b) hold in
+      (leb-true h 12 short, (leb-true ((h + 1) * s) a both.0, leb-true (h * s) b both.1))
+
+  module _ (is : ◌≡◌ {A = Result (Unit {0}) Refusal} (Ok tt) (unless (sizes_refusal s h a b) tt)) where
+    pub accepted : {V : Type 0} (v : V) → Ok v ≡ unless (sizes_refusal s h a b) v
+    accepted v = ap (λ why. unless why v) (sym (unrefused (sizes_refusal s h a b) tt tt (sym is)))
+
+    pub accepted_short : h ≤ 12
+    accepted_short = (sizes_pass (unrefused (sizes_refusal s h a b) tt tt (sym is))).0

@@ -32,8 +32,8 @@ module _ (w : Weigh) (m : Model) (law : Lawful m) (num : NumberedBy m) (horizon 
     -- what is picked by the rule
     best : (p : Pick) × (pick_at w m before s ≡ Some p)
     best =
-        let waits = law.waits s (num.below s ∙ lt-ltb s m.span inside) in
-        pick_some (m.offered s) (value_of w m horizon k s) m.actions 0 (law.offers s 0 waits).1 waits
+        let waits = law.moves.waits s (num.below s ∙ lt-ltb s m.span inside) in
+        pick_some (m.offered s) (value_of w m horizon k s) m.actions 0 (law.moves.offers s 0 waits).1 waits
 
     told : Picks (m.offered s) (value_of w m horizon k s) m.actions best.0
     told = pick_told (m.offered s) (value_of w m horizon k s) m.actions best.0 best.1
@@ -71,7 +71,7 @@ module _ (w : Weigh) (m : Model) (law : Lawful m) (num : NumberedBy m) (horizon 
     value_there : (a : ℕ) → value_in w m worths k s a ≡ value_of w m horizon k s a
     value_there a =
         joined_same w (worth_in m worths (k - 1)) (worth_of w discount_of m horizon (k - 1)) w.first w.first (m.outcomes s a) refl
-        (λ t has. worth_there (k - 1) t (omega arith) (law.within t (target_state m law s a t has)))
+        (λ t has. worth_there (k - 1) t (omega arith) (law.states.within t (target_state m law s a t has)))
 
     by_rule : Picks (m.offered s) (value_of w m horizon k s) m.actions (record { action = choice_in m choices k s; value = value_of w m horizon k s (choice_in m choices k s) })
     by_rule = picks_lowest w m law num horizon choices chosen k s some few inside

@@ -1,5 +1,5 @@
 -- What stands at a place of the plan, from what stands at the places before it. For others: `picked_within`, `picked_small`,
--- `pick_more`, `pick_past`, `last_worth` and `entry_there`.
+-- `pick_more`, `pick_past`, `last_worth`, `first_row` and `entry_there`.
 use Rattle.std.proofs.Common.{◌≡◌, ℕ, suc, ◌+◌, ◌-◌, ◌*◌, ◌/◌, ◌%◌, ◌<◌, ◌≤◌, Bool, true, false, cond, List, [], ◌∷◌, ℤ, pos, Some, None, IfSome, Option, get_or, take, drop, refl, sym, ap, ◌∙◌, subst, mul_comm, mul-suc, suc-mul, add-one, arith}
 use Rattle.std.proofs.lemmas.List.{get_or-take, get_or-drop}
 use Rattle.std.proofs.lemmas.Nat.{div-mul-add, mod-mul-add}
@@ -33,7 +33,7 @@ picked_within w law m f s o is =
 pub picked_small : (w : Weigh) (m : Model) → Lawful m → (f : ℕ → ℤ) (s : ℕ) (o : Option Pick) → o ≡ pick_at w m f s → action_of o < 8
 picked_small w m law f s o is =
     let told = λ (p : Pick) (e : pick_at w m f s ≡ Some p). (pick_offered (m.offered s) (λ a. joined w f (m.outcomes s a)) m.actions p e).0 in
-    let each : (q : Option Pick) → q ≡ pick_at w m f s → action_of q < 8 = λ q. elim q as (λ q. q ≡ pick_at w m f s → action_of q < 8) [ None ↦ (λ e. omega arith) | Some p ↦ (λ e. omega (arith, told p (sym e), law.acts.1)) ] in
+    let each : (q : Option Pick) → q ≡ pick_at w m f s → action_of q < 8 = λ q. elim q as (λ q. q ≡ pick_at w m f s → action_of q < 8) [ None ↦ (λ e. omega arith) | Some p ↦ (λ e. omega (arith, told p (sym e), law.moves.acts.1)) ] in
     each o is
 
 -- one action more: it is offered and taken where its value is larger, or it is not offered
@@ -61,6 +61,13 @@ module _ (w : Weigh) (m : Model) (law : Lawful m) (num : NumberedBy m) (horizon 
       ap (λ k. worth_of w discount_of m horizon k (p % m.span)) e
       ∙ ap (λ k. own_part w discount_of horizon k (m.reward (p % m.span))) (sym e)
 
+  -- in the first row no row is before
+  pub first_row : (p : ℕ) → p / m.span ≡ 0 → m.span ≤ p → ⊥
+  first_row p e row =
+      let inside : p % m.span < m.span = mod-lt p (omega (arith, law.states.within m.start law.states.starts)) in
+      let none : m.span * (p / m.span) ≡ m.span * 0 = ap (λ k. m.span * k) e in
+      omega (arith, div-add-mod p m.span, inside, none)
+
   -- the row below
   below_worth : (xs : List ℤ) (p j t : ℕ) → HoldsTo (worth_at w m horizon) p xs → suc j * m.span ≤ p → t < m.span → get_or xs (j * m.span + t) (pos 0) ≡ worth_of w discount_of m horizon j t
   below_worth xs p j t before row inside =
@@ -71,7 +78,7 @@ module _ (w : Weigh) (m : Model) (law : Lawful m) (num : NumberedBy m) (horizon 
   picks_same : (f h : ℕ → ℤ) (s : ℕ) → ((t : ℕ) → t < m.span → f t ≡ h t) → pick_at w m f s ≡ pick_at w m h s
   picks_same f h s same =
       pick_same (m.offered s) (λ a. joined w f (m.outcomes s a)) (λ a. joined w h (m.outcomes s a))
-      (λ a off. joined_same w f h w.first w.first (m.outcomes s a) refl (λ t has. same t (law.within t (target_state m law s a t has))))
+      (λ a off. joined_same w f h w.first w.first (m.outcomes s a) refl (λ t has. same t (law.states.within t (target_state m law s a t has))))
       m.actions
 
   -- with j + 1 slots left, where f says what the row below holds
@@ -88,7 +95,7 @@ module _ (w : Weigh) (m : Model) (law : Lawful m) (num : NumberedBy m) (horizon 
     entry_choice : choice_at w m horizon (p - m.span) ≡ action_of o
     entry_choice =
         let r = p % m.span in
-        let some : 0 < m.span = omega (arith, law.within m.start law.starts) in
+        let some : 0 < m.span = omega (arith, law.states.within m.start law.states.starts) in
         let inside : r < m.span = mod-lt p some in
         let whole : m.span * (p / m.span) + r ≡ p = div-add-mod p m.span in
         let rows : m.span * (p / m.span) ≡ j * m.span + m.span = ap (λ k. m.span * k) left ∙ mul-suc m.span j ∙ ap (λ k. k + m.span) (mul_comm m.span j) in

@@ -2,9 +2,6 @@
 
 #![tactic(auto)]
 
-mod best;
-mod fill;
-mod own;
 mod planner;
 mod sizes;
 mod tables;

@@ -1,18 +1,19 @@
 // Whether a plan can be made, from sizes alone.
 ghost use Rattle.std.specs.Prelude.{◌≡◌};
-ghost use Rattle.planning.specs.Plans.{unless_refused};
+ghost use Rattle.planning.specs.Plans.{sizes_refusal};
+ghost use Rattle.refusal.specs.Rows.{unless};
 
 use crate::planner::SLOTS;
 use refusal::Refusal;
 
-// What planning for so many states would answer in tables of so many worths and choices, before anything is planned.
+/// What planning for so many states would answer in tables of so many worths and choices, before anything is planned.
 pub fn check_sizes(
     states: usize,
     horizon: usize,
     worths: usize,
     choices: usize,
 ) -> Result<(), Refusal>
-    ensures { result ≡ unless_refused tt states horizon worths choices }
+    ensures { result ≡ unless (sizes_refusal states horizon worths choices) tt }
 {
     if horizon > SLOTS {
         return Err(Refusal::HorizonTooLong);

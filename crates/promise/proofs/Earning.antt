@@ -10,8 +10,8 @@ use Rattle.weighing.specs.Discounts.{discount_of}
 use Rattle.weighing.specs.Weighings.{Weigh}
 use Rattle.worth.specs.Policies.{Best}
 use Rattle.writeout.specs.Copies.{by_origin}
-use Rattle.writeout.specs.Tables.{Faithfully, Writable, out_book}
-use Rattle.outbook.specs.Lawful.{origin_lawful}
+use Rattle.writeout.specs.Tables.{Represents, Writable, out_book}
+use Rattle.writeout.proofs.Origins.{origin_lawful}
 use Rattle.worth.proofs.Optimal.{plan_best}
 use Rattle.promise.specs.Planning.{BestInBook}
 use Rattle.promise.specs.Corresponding.{Corresponds, book_model, place_in}
@@ -22,7 +22,7 @@ best_of_pile w g fs m horizon choices v b is few corresponds best =
     let u : Unfolds g (by_origin b) (place_in g fs m) (shown_on g fs).mask (shown_on g fs).reward = subst (λ x. Unfolds g (by_origin x) (place_in g fs m) (shown_on g fs).mask (shown_on g fs).reward) (sym is) (corresponds.in_book few) in
     subst (λ x. Best w discount_of g (shown_on g fs).reward horizon (tabled choices (by_origin x).span (place_in g fs m) horizon) v) is (best g (place_in g fs m) (shown_on g fs).mask (shown_on g fs).reward u)
 
-pub best_in_book : (g : Model) (fs : List Floor) (m : Model) → Faithfully m → Corresponds g fs m → BestInBook g fs m
+pub best_in_book : (g : Model) (fs : List Floor) (m : Model) → Represents m → Corresponds g fs m → BestInBook g fs m
 best_in_book g fs m faithful corresponds = λ few w law horizon.
     let lawful = origin_lawful (out_book m) (faithful.copies few).sound in
     let u = corresponds.in_book few in

@@ -9,13 +9,13 @@ use Rattle.promise.specs.Corresponding.{book_model}
 use Rattle.promise.specs.Planning.{ReadyAs, after_writing, unless_unready}
 use Rattle.promise.specs.declared.causes.Unplanned.{Unplanned}
 use Rattle.promise.specs.declared.causes.Unplanned.TheVariants.{Refused, Memory}
-use Rattle.promise.proofs.Rereading.{wrote}
+use Rattle.writeout.proofs.Outcomes.{wrote}
 use Rattle.refusal.specs.declared.Refusal.{Refusal}
 use Rattle.refusal.specs.declared.Refusal.TheVariants.{HorizonTooLong, PlanTableShort}
 use Rattle.writeout.specs.declared.Written.{Written}
-use Rattle.writeout.specs.Tables.{Faithfully, outcome}
+use Rattle.writeout.specs.Tables.{Represents, outcome}
 
-module _ (m : Model) (faithful : Faithfully m) (h places space a b : ℕ) (w : Written) (out : outcome m places space ≡ Ok w) where
+module _ (m : Model) (faithful : Represents m) (h places space a b : ℕ) (w : Written) (out : outcome m places space ≡ Ok w) where
   -- the book has a state for each listed one
   pub states_are : w.states ≡ (book_model m).span
   states_are = let told = wrote m places space w out in told.states ∙ sym (faithful.copies told.few).states

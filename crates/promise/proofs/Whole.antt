@@ -4,7 +4,7 @@ use Rattle.std.specs.Prelude.{vec_items}
 use Rattle.std.proofs.lemmas.Bool.{and_parts, leb-true}
 use Rattle.std.proofs.lemmas.List.{length-take, get_or-take}
 use Rattle.model.specs.Models.{Model}
-use Rattle.outbook.specs.Lawful.{origin_lawful, origin_numbered}
+use Rattle.writeout.proofs.Origins.{origin_lawful, origin_numbered}
 use Rattle.pile.specs.Piles.{Floor, shown_on}
 use Rattle.planning.proofs.Better.{nobody_better}
 use Rattle.planning.proofs.Choosing.{picks_lowest}
@@ -25,7 +25,7 @@ use Rattle.weighing.specs.Discounts.{discount_of}
 use Rattle.weighing.specs.Weighings.{Weigh, LawfulWeigh}
 use Rattle.worth.specs.Policies.{Best}
 use Rattle.worth.specs.Worths.{worth_of}
-use Rattle.writeout.specs.Tables.{Faithfully, Writable, out_book, word_count}
+use Rattle.writeout.specs.Tables.{Represents, Writable, out_book, word_count}
 
 -- in tables of the lengths that the test was made of
 pub unplanned_as : (w : Weigh) (m : Model) (h : ℕ) (t : Tables) (why : Unplanned) → ReadyAs m h (length t.codes.now) (length t.bytes.now) (length t.worths.now) (length t.choices.now) (Err why) → PlansAs w m h t (Err why)
@@ -35,7 +35,7 @@ unplanned_as w m h t (Memory e) is =
     let v = worth_of w discount_of (book_model m) h h (book_model m).start in
     (v, passed_after v (book_model m).span h (length t.worths.now) (length t.choices.now) (written_in m t) is)
 
-module _ (w : Weigh) (law : LawfulWeigh w) (g : Model) (fs : List Floor) (m : Model) (h : ℕ) (faithful : Faithfully m) (corresponds : Corresponds g fs m) where
+module _ (w : Weigh) (law : LawfulWeigh w) (g : Model) (fs : List Floor) (m : Model) (h : ℕ) (faithful : Represents m) (corresponds : Corresponds g fs m) where
   -- choices by the backward rule are the best
   pub best_of_choices : Writable m → (choices : List ℕ) → HoldsTo (choice_at w (book_model m) h) (h * (book_model m).span) choices
       → Best w discount_of g (shown_on g fs).reward h (tabled choices (book_model m).span (place_in g fs m) h) (worth_of w discount_of (book_model m) h h (book_model m).start)

@@ -5,7 +5,7 @@ use Rattle.model.specs.Histories.{Unfolds, OnePathAbove}
 use Rattle.model.specs.Models.{Model}
 use Rattle.pile.specs.Piles.{Floor, piled, shown_on}
 use Rattle.reach.specs.Search.{codes_of}
-use Rattle.writeout.specs.Copies.{by_origin, placed}
+use Rattle.writeout.specs.Copies.{by_origin, place_in_book}
 use Rattle.writeout.specs.Tables.{Writable, out_book}
 
 -- the written-out book as a model
@@ -14,7 +14,7 @@ book_model m = by_origin (out_book m)
 
 -- the place of the book at which a history of the ground model stands
 abbrev pub place_in : Model → List Floor → Model → List ℕ → ℕ
-place_in g fs m = placed (codes_of m) (shown_on g fs).code
+place_in g fs m = place_in_book (codes_of m) (shown_on g fs).code
 
 pub record Corresponds (g : Model) (fs : List Floor) (m : Model) : Type 0 where
   pub pile : m ≡ piled g fs

@@ -20,7 +20,7 @@ use Rattle.words.specs.Format.{file}
 use Rattle.worth.specs.Policies.{Policy, Admissible, earns, Best, planned}
 use Rattle.worth.specs.Worths.{worth_of}
 use Rattle.writeout.specs.declared.Written.{Written}
-use Rattle.writeout.specs.Tables.{Writable, outcome, out_book, left}
+use Rattle.writeout.specs.Tables.{Writable, outcome, out_book, table_after}
 
 -- what writing out answers over these tables, and what planning on the book answers
 abbrev pub written_in : Model → Tables → Result Written Refusal
@@ -53,8 +53,8 @@ PlansAs w m horizon t (Err (Memory e)) = (worth : ℤ) × (after_writing (writte
 
 -- the codes and the book, or all 0 where they are refused; the plan, or what was there before
 pub record TablesLeft (w : Weigh) (m : Model) (horizon : ℕ) (result : Result Plan Unplanned) (before after : Tables) : Type 0 where
-  pub codes : after.codes.now ≡ left (written_in m before) (length before.codes.now) (codes_of m)
-  pub bytes : after.bytes.now ≡ left (written_in m before) (length before.bytes.now) (file (site_words (out_book m)))
+  pub codes : after.codes.now ≡ table_after (written_in m before) (length before.codes.now) (codes_of m)
+  pub bytes : after.bytes.now ≡ table_after (written_in m before) (length before.bytes.now) (file (site_words (out_book m)))
   pub worths : Left result (worth_at w (book_model m) horizon) ((horizon + 1) * (book_model m).span) before.worths.now after.worths.now
   pub choices : Left result (choice_at w (book_model m) horizon) (horizon * (book_model m).span) before.choices.now after.choices.now
 

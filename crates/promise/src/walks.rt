@@ -5,7 +5,7 @@ ghost use Rattle.promise.specs.Corresponding.{book_model, Corresponds};
 ghost use Rattle.promise.specs.Planning.{BestInBook, NobodyEarnsMore, PlanEarns, PlansAs, TablesLeft, TablesStay};
 ghost use Rattle.promise.specs.Walking.{AgreeInBook, AgreeOnPile, CourseInBook, CourseTold, StandsInBook, StandsOnPile, StepsInBook, StepsTold, WalkedInBook, WalksStay};
 ghost use Rattle.promise.specs.WholePlan.{IsPlanOf};
-ghost use Rattle.writeout.specs.Tables.{Faithfully};
+ghost use Rattle.writeout.specs.Tables.{Represents};
 
 use crate::causes::Unplanned;
 use crate::plans::{Plan, Tables, plan_pile};
@@ -78,7 +78,7 @@ pub fn plan_and_walk<P: Pile, W: Weighing>(
     ensures free { OnOk result.plan
         (NothingHeld (W.meaning weighing.now) (book_model (P.SiteModel.meaning pile.now)) horizon
         tables.new.worths.now) }
-    ensures faithful { Faithfully (P.SiteModel.meaning pile.now) }
+    ensures faithful { Represents (P.SiteModel.meaning pile.now) }
     ensures corresponds { Corresponds (P.Pile.base pile.now) (P.Pile.floors pile.now)
         (P.SiteModel.meaning pile.now) }
     ensures agrees_on_pile { AgreeOnPile (P.Pile.base pile.now) (P.Pile.floors pile.now)

@@ -4,7 +4,7 @@ ghost use Rattle.promise.specs.Corresponding.{Corresponds};
 ghost use Rattle.reach.specs.Search.{codes_of};
 ghost use Rattle.sitelayout.specs.Layout.{site_words};
 ghost use Rattle.words.specs.Format.{file};
-ghost use Rattle.writeout.specs.Tables.{Faithfully, left, out_book, outcome};
+ghost use Rattle.writeout.specs.Tables.{out_book, outcome, Represents, table_after};
 
 use pile::Pile;
 use refusal::Refusal;
@@ -19,11 +19,11 @@ pub fn write_pile<P: Pile>(
 ) -> Result<Written, Refusal>
     ensures answer { result ≡ outcome (P.SiteModel.meaning pile.now) (length codes.old)
         (length bytes.old) }
-    ensures codes { codes.new ≡ left result (length codes.old)
+    ensures codes { codes.new ≡ table_after result (length codes.old)
         (codes_of (P.SiteModel.meaning pile.now)) }
-    ensures bytes { bytes.new ≡ left result (length bytes.old)
+    ensures bytes { bytes.new ≡ table_after result (length bytes.old)
         (file (site_words (out_book (P.SiteModel.meaning pile.now)))) }
-    ensures faithful { Faithfully (P.SiteModel.meaning pile.now) }
+    ensures faithful { Represents (P.SiteModel.meaning pile.now) }
     ensures corresponds { Corresponds (P.Pile.base pile.now) (P.Pile.floors pile.now)
         (P.SiteModel.meaning pile.now) }
 {

@@ -14,7 +14,7 @@ use Rattle.register.specs.Keys.{place_of, enter, enter_all, Entered}
 use Rattle.register.proofs.Counting.{drop_further}
 use Rattle.register.proofs.Keys.{enter_both, enter_new, enter-length, enter_all-append, enter_all-length}
 use Rattle.reach.specs.Adding.{Added, Onto, room_in}
-use Rattle.reach.specs.Reached.{Lists, Searched}
+use Rattle.reach.specs.Reached.{ListsReached, Searched}
 use Rattle.reach.specs.Search.{targets_below, leads_to, listed_after, codes_of}
 use Rattle.reach.proofs.Turns.{listed_next, listed_within, listed_complete}
 use Rattle.reach.proofs.Searching.{search_lists, search_exceeds}
@@ -124,7 +124,7 @@ pub search_done : (m : Model) → Lawful m → (room n : ℕ) (codes : List ℕ)
 search_done m law room n codes e near done fits few =
     let all : codes_of m ≡ listed_after m n = listed_complete m n (omega arith) (omega (arith, ap length e)) in
     let same : codes ≡ codes_of m = e ∙ sym all in
-    (same, (fits, subst (Lists m) (sym same) (search_lists m law (omega (arith, ap length same)))))
+    (same, (fits, subst (ListsReached m) (sym same) (search_lists m law (omega (arith, ap length same)))))
 
 -- after an entry there are no fewer codes
 pub entered_more : (before after : List ℕ) (room code : ℕ) (answer : Option ℕ) → Entered eqb code room before after answer → length before ≤ length after

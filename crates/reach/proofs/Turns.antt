@@ -8,7 +8,7 @@ use Rattle.register.specs.Keys.{Kept, enter_all}
 use Rattle.register.proofs.Keys.{enter_all-append, enter_all-length, enter_all-take}
 use Rattle.register.proofs.Identity.{eqb_identity, enter_all_identical}
 use Rattle.reach.specs.Reached.{coming_up}
-use Rattle.reach.specs.Search.{leads_to, turned, listed_after, codes_of}
+use Rattle.reach.specs.Search.{leads_to, after_turn, listed_after, codes_of}
 
 -- one turn
 
@@ -16,7 +16,7 @@ pub listed_start : (m : Model) → listed_after m 0 ≡ m.start ∷ []
 unfolding listed_after
 listed_start m = refl
 
-listed_turn : (m : Model) (n : ℕ) → listed_after m (suc n) ≡ turned m (listed_after m n) n
+listed_turn : (m : Model) (n : ℕ) → listed_after m (suc n) ≡ after_turn m (listed_after m n) n
 unfolding listed_after
 listed_turn m n = refl
 

@@ -15,8 +15,11 @@ room_in n = min n 4096
 module _ {k : key.Ghosts ℕ} {e : equality.Ghosts ℕ} where
   -- all of the codes are listed, or there are more than the room
   abbrev pub Added : List ℕ → Register ℕ k e → Register ℕ k e → Result ⊤ Refusal → Type 0
-  Added codes before after (Ok _) = (listed after ≡ enter_all nat_eq (listed before) codes) × (before.len ≤ 4096 → after.len ≤ 4096)
-  Added codes before after (Err r) = (r ≡ TooManyStates) × (room_in (length before.keys.now) < length (enter_all nat_eq (listed before) codes))
+  Added codes before after (Ok _) =
+      (listed after ≡ enter_all nat_eq (listed before) codes) × (before.len ≤ 4096 → after.len ≤ 4096)
+  Added codes before after (Err r) =
+      (r ≡ TooManyStates)
+      × (room_in (length before.keys.now) < length (enter_all nat_eq (listed before) codes))
 
   -- codes are listed in the same table, which is as it was after them
   pub record Onto (before after : Register ℕ k e) : Type 0 where
@@ -26,6 +29,6 @@ module _ {k : key.Ghosts ℕ} {e : equality.Ghosts ℕ} where
     pub lent : after.keys.ghost_name ≡ before.keys.ghost_name
 
   -- codes are added to the same table
-  pub record Adds (codes : List ℕ) (before after : Register ℕ k e) (answer : Result ⊤ Refusal) : Type 0 where
+  pub record AddsCodes (codes : List ℕ) (before after : Register ℕ k e) (answer : Result ⊤ Refusal) : Type 0 where
     pub added : Added codes before after answer
     pub onto : Onto before after

@@ -4,7 +4,7 @@
 
 ghost use Rattle.bounded.specs.Listed.{listed as ways};
 ghost use Rattle.model.specs.Histories.{targets_of};
-ghost use Rattle.reach.specs.Adding.{Adds, room_in};
+ghost use Rattle.reach.specs.Adding.{AddsCodes, room_in};
 ghost use Rattle.reach.specs.Reached.{Searched};
 ghost use Rattle.reach.specs.Search.{leads_to};
 ghost use Rattle.register.specs.Listed.{listed};
@@ -17,9 +17,15 @@ use register::Register;
 // How many states a book holds at most.
 const MOST: usize = 4096;
 
-// Lists the reachable states; refused where there are more than the table or a book holds.
+/// Lists the reachable states in the register, in the order of the search: docs/FORMATS.md,
+/// "Writing out". What the register held before is dropped.
+///
+/// # Errors
+/// `TooManyStates` where there are more than the register's table or a book (4,096) holds. Nothing is
+/// promised of what the register then lists.
 pub fn search<M: SiteModel>(m: &M, codes: &mut Register<u64>) -> Result<(), Refusal>
-    ensures answer { Searched (M.SiteModel.meaning m.now) (room_in (length codes.old.keys.now)) (listed codes.new) result }
+    ensures answer { Searched (M.SiteModel.meaning m.now) (room_in (length codes.old.keys.now))
+        (listed codes.new) result }
     ensures rest { drop codes.new.len codes.new.keys.now ≡ drop codes.new.len codes.old.keys.now }
     ensures room { length codes.new.keys.now ≡ length codes.old.keys.now }
     ensures lent { codes.new.keys.ghost_name ≡ codes.old.keys.ghost_name }
@@ -37,7 +43,7 @@ pub fn search<M: SiteModel>(m: &M, codes: &mut Register<u64>) -> Result<(), Refu
 
 // Adds the unlisted targets of a state, actions rising.
 fn add_targets<M: SiteModel>(m: &M, state: u64, codes: &mut Register<u64>) -> Result<(), Refusal>
-    ensures { Adds (leads_to (M.SiteModel.meaning m.now) state) codes.old codes.new result }
+    ensures { AddsCodes (leads_to (M.SiteModel.meaning m.now) state) codes.old codes.new result }
 {
     for action in 0..m.actions() {
         add_outcomes(&m.outcomes(state, action), codes)?;
@@ -47,7 +53,7 @@ fn add_targets<M: SiteModel>(m: &M, state: u64, codes: &mut Register<u64>) -> Re
 
 // Adds the unlisted targets of an action's outcomes, in order.
 fn add_outcomes(outcomes: &Outcomes, codes: &mut Register<u64>) -> Result<(), Refusal>
-    ensures { Adds (targets_of (ways outcomes.now)) codes.old codes.new result }
+    ensures { AddsCodes (targets_of (ways outcomes.now)) codes.old codes.new result }
 {
     for way in outcomes.as_slice() {
         list(codes, way.target)?;
@@ -57,7 +63,7 @@ fn add_outcomes(outcomes: &Outcomes, codes: &mut Register<u64>) -> Result<(), Re
 
 // Adds one state, unless it is listed.
 fn list(codes: &mut Register<u64>, code: u64) -> Result<(), Refusal>
-    ensures { Adds (code ∷ []) codes.old codes.new result }
+    ensures { AddsCodes (code ∷ []) codes.old codes.new result }
 {
     match codes.enter(code) {
         Some(place) if place < MOST => Ok(()),

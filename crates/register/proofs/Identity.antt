@@ -1,7 +1,7 @@
 -- Where the test of two keys is identity: keys that are equal are one value.
 use Rattle.std.proofs.Common.{◌≡◌, ℕ, ◌<◌, Bool, true, eqb, List, [], length, get_or, sym, refl, ap, subst}
 use Rattle.std.specs.Cmp.{IsEquivalence, both_ways as one_answer}
-use Rattle.std.specs.List.{ContainsAt as Has}
+use Rattle.std.specs.List.{Contains}
 use Rattle.std.proofs.lemmas.Bool.{both_ways, eqb-true, eq-eqb}
 use Rattle.register.specs.Keys.{Equal, Distinct, KeptBy, Kept, place_of, enter_all}
 use Rattle.register.proofs.Keys.{place_of_holds, place_of_fails, place_of_equal}
@@ -54,5 +54,5 @@ module _ {K : Type 0} (eq : K → K → Bool) (is : IsIdentity eq) where
   enter_all_identical ks = kept_identical ks (enter_all eq [] ks) (enter_all_kept eq identity_equivalence ks)
 
 -- each key that came is held
-pub kept_has : {K : Type 0} (ks held : List K) → Kept ks held → (x : K) → Has ks x → Has held x
-kept_has ks held kept x h = let had = kept.every x h in subst (Has held) (sym had.2) had.1
+pub kept_has : {K : Type 0} (ks held : List K) → Kept ks held → (x : K) → Contains ks x → Contains held x
+kept_has ks held kept x h = let had = kept.every x h in subst (Contains held) (sym had.2) had.1

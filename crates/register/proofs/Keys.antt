@@ -1,7 +1,7 @@
 -- What entering does to a list of keys.
 use Rattle.std.proofs.Common.{◌≡◌, ℕ, zero, suc, ◌+◌, ◌<◌, ◌≤◌, Bool, true, false, cond, List, [], ◌∷◌, ◌++◌, length, get_or, take, sym, refl, ap, ◌∙◌, subst, ⊎_elim, arith}
-use Rattle.std.specs.List.{ContainsAt as Has}
-use Rattle.std.proofs.ByRecursion.{has_get_or}
+use Rattle.std.specs.List.{Contains}
+use Rattle.std.proofs.lemmas.List.Elements.{Contains-get_or, at_from_Contains}
 use Rattle.std.specs.Cmp.{IsEquivalence}
 use Rattle.register.specs.Keys.{Equal, DistinctBy, place_of, enter, enter_all}
 use Rattle.std.proofs.lemmas.List.{length_push, get_or_append_left, get_or_push, take_at, take_all, take-take, take_more}
@@ -71,15 +71,16 @@ enter-take eq k ks =
     (λ _. take_at ks (k ∷ []) (length ks) refl)
 
 -- what stands at the place of a key among the keys is equal to it,
-pub placed_has : {K : Type 0} (eq : K → K → Bool) (k : K) (ks : List K) → place_of eq k ks < length ks → (y : K) × Has ks y × Equal eq k y
-placed_has eq k ks l = (get_or ks (place_of eq k ks) k, has_get_or ks (place_of eq k ks) k l, place_of_holds eq k ks k l)
+pub placed_has : {K : Type 0} (eq : K → K → Bool) (k : K) (ks : List K) → place_of eq k ks < length ks → (y : K) × Contains ks y × Equal eq k y
+placed_has eq k ks l = (get_or ks (place_of eq k ks) k, Contains-get_or ks (place_of eq k ks) k l, place_of_holds eq k ks k l)
 
 -- and to a key with its place past them none is
-pub placed_new : {K : Type 0} (eq : K → K → Bool) → IsEquivalence eq → (k : K) (ks : List K) → place_of eq k ks ≡ length ks → (y : K) → Has ks y → Equal eq y k → ⊥
-placed_new eq E k ks e y (i, l, at) same =
-    both_ways (eq k y) (subst (λ x. eq k x ≡ false) (at k) (place_of_fails eq k ks i k (omega arith))) (E.symm k y ∙ same)
+pub placed_new : {K : Type 0} (eq : K → K → Bool) → IsEquivalence eq → (k : K) (ks : List K) → place_of eq k ks ≡ length ks → (y : K) → Contains ks y → Equal eq y k → ⊥
+placed_new eq E k ks e y had same =
+    let there = at_from_Contains ks y had in
+    both_ways (eq k y) (subst (λ x. eq k x ≡ false) (there.2 k) (place_of_fails eq k ks there.0 k (omega (arith, there.1)))) (E.symm k y ∙ same)
 
-pub new_apart : {K : Type 0} (Same : K → K → Type 0) (k : K) (ks : List K) → DistinctBy Same ks → ((y : K) → Has ks y → Same y k → ⊥) → DistinctBy Same (ks ++ (k ∷ []))
+pub new_apart : {K : Type 0} (Same : K → K → Type 0) (k : K) (ks : List K) → DistinctBy Same ks → ((y : K) → Contains ks y → Same y k → ⊥) → DistinctBy Same (ks ++ (k ∷ []))
 new_apart Same k ks apart new i j d (l, m) same =
     let i-in : i < length ks = omega (arith, length_push ks k) in
     let at_i = get_or_append_left ks (k ∷ []) d i i-in in
@@ -88,7 +89,7 @@ new_apart Same k ks apart new i j d (l, m) same =
     (λ (j-in : j < length ks). apart i j d (l, j-in) (subst (Same (get_or ks i d)) (get_or_append_left ks (k ∷ []) d j j-in) here))
     (λ (past : length ks ≤ j).
     let last : length ks ≡ j = omega (arith, length_push ks k) in
-    new (get_or ks i d) (has_get_or ks i d i-in) (subst (Same (get_or ks i d)) (get_or_push ks k d j last) here))
+    new (get_or ks i d) (Contains-get_or ks i d i-in) (subst (Same (get_or ks i d)) (get_or_push ks k d j last) here))
     (cases_lt j (length ks))
 
 pub enter_distinct : {K : Type 0} (eq : K → K → Bool) → IsEquivalence eq → (k : K) (ks : List K) → DistinctBy (Equal eq) ks → DistinctBy (Equal eq) (enter eq k ks)

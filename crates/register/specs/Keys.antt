@@ -1,16 +1,15 @@
 -- A register keeps, of keys that are equal, the first, in the order of entry: entering a key puts it at the end of the list, unless one that is equal to it stands there.
 -- Which keys are equal is told by a test of two keys, the key's own `==`. The place of a key is where the first that is equal to it stands, counted
 -- from 0, or the list's length where none does.
-use Rattle.std.specs.Prelude.{◌≡◌, ℕ, suc, ◌+◌, ◌<◌, ◌≤◌, Bool, true, false, cond, List, [], ◌∷◌, ◌++◌, length, take, drop, Some, None, Option, nat_lt, slice_index_or}
-use Rattle.std.specs.List.{ContainsAt as Has}
+use Rattle.std.specs.Prelude.{◌≡◌, ℕ, suc, ◌+◌, ◌<◌, ◌≤◌, Bool, if◌then◌else◌, IsTrue, IsFalse, List, [], ◌∷◌, ◌++◌, length, take, drop, Some, None, Option, nat_lt, slice_index_or, Contains}
 
 -- equal keys have one number, that of their bucket: the law of a key
 abbrev pub SharesBucket : {K : Type 0} → (K → K → Bool) → (K → ℕ) → Type 0
-SharesBucket {K} eq number = (x y : K) → eq x y ≡ true → number x ≡ number y
+SharesBucket {K} eq number = (x y : K) → IsTrue (eq x y) → number x ≡ number y
 
 -- two keys are the same: by a test, or as values
 abbrev pub Equal : {K : Type 0} → (K → K → Bool) → K → K → Type 0
-Equal eq x y = eq x y ≡ true
+Equal eq x y = IsTrue (eq x y)
 
 abbrev pub Identical : {K : Type 0} → K → K → Type 0
 Identical x y = x ≡ y
@@ -24,10 +23,10 @@ Distinct ks = DistinctBy Identical ks
 
 abbrev pub place_of : {K : Type 0} → (K → K → Bool) → K → List K → ℕ
 place_of eq k [] = 0
-place_of eq k (x ∷ xs) = cond (eq k x) 0 (suc (place_of eq k xs))
+place_of eq k (x ∷ xs) = if eq k x then 0 else suc (place_of eq k xs)
 
 abbrev pub enter : {K : Type 0} → (K → K → Bool) → K → List K → List K
-enter eq k ks = cond (nat_lt (place_of eq k ks) (length ks)) ks (ks ++ (k ∷ []))
+enter eq k ks = if nat_lt (place_of eq k ks) (length ks) then ks else ks ++ (k ∷ [])
 
 -- the keys of ks, entered one after another
 abbrev pub enter_all : {K : Type 0} → (K → K → Bool) → List K → List K → List K
@@ -37,12 +36,12 @@ enter_all eq held (k ∷ ks) = enter_all eq (enter eq k held) ks
 -- what a register holds after the keys of ks came one after another: of those that are the same the first, and no other, in the order in which they came
 pub record KeptBy {K : Type 0} (Same : K → K → Type 0) (ks held : List K) : Type 0 where
   pub once : DistinctBy Same held
-  pub only : (x : K) → Has held x → Has ks x
-  pub every : (x : K) → Has ks x → (y : K) × Has held y × Same x y
+  pub only : (x : K) → Contains held x → Contains ks x
+  pub every : (x : K) → Contains ks x → (y : K) × Contains held y × Same x y
   -- wherever one came that is the same as one that is held, this had come, or came then
-  pub first : (j q : ℕ) (d : K) → j < length held → q < length ks → Same (slice_index_or ks q d) (slice_index_or held j d) → Has (take (q + 1) ks) (slice_index_or held j d)
+  pub first : (j q : ℕ) (d : K) → j < length held → q < length ks → Same (slice_index_or ks q d) (slice_index_or held j d) → Contains (take (q + 1) ks) (slice_index_or held j d)
   -- wherever one came that is the same as the later of two that are held, the earlier had come before
-  pub order : (i j q : ℕ) (d : K) → i < j → j < length held → q < length ks → Same (slice_index_or ks q d) (slice_index_or held j d) → Has (take q ks) (slice_index_or held i d)
+  pub order : (i j q : ℕ) (d : K) → i < j → j < length held → q < length ks → Same (slice_index_or ks q d) (slice_index_or held j d) → Contains (take q ks) (slice_index_or held i d)
 
 abbrev pub Kept : {K : Type 0} → List K → List K → Type 0
 Kept ks held = KeptBy Identical ks held
@@ -69,5 +68,5 @@ Counted eq ks before after None = (length before < length (enter_all eq [] ks)) 
 
 -- the answer to where, from a place on and before another, a key equal to k stands in ks
 abbrev pub Found : {K : Type 0} → (K → K → Bool) → List K → K → ℕ → ℕ → Option ℕ → Type 0
-Found eq ks k from end (Some p) = (from ≤ p) × (p < end) × (eq k (slice_index_or ks p k) ≡ true)
-Found eq ks k from end None = (q : ℕ) → from ≤ q → q < end → eq k (slice_index_or ks q k) ≡ false
+Found eq ks k from end (Some p) = (from ≤ p) × (p < end) × IsTrue (eq k (slice_index_or ks p k))
+Found eq ks k from end None = (q : ℕ) → from ≤ q → q < end → IsFalse (eq k (slice_index_or ks q k))

@@ -18,7 +18,7 @@ use Rattle.weighing.specs.Discounts.{discount_of}
 use Rattle.weighing.specs.Weighings.{Weigh}
 use Rattle.worth.specs.Worths.{worth_of}
 use Rattle.writeout.specs.declared.Written.{Written}
-use Rattle.writeout.specs.Tables.{Faithfully, Writable, outcome}
+use Rattle.writeout.specs.Tables.{Represents, Writable, outcome}
 use Rattle.slotplan.specs.Planning.{PlansOr}
 use Rattle.slotplan.proofs.Holding.{passed}
 
@@ -35,7 +35,7 @@ answered w m h a b few short worths choices =
     cond-true (leb h 12) (cond (tables_hold m.span h a b) done (Err PlanTableShort)) (Err HorizonTooLong) (le-leb h 12 short) ∙ cond-true (tables_hold m.span h a b) done (Err PlanTableShort) both
 
 -- after writing out, which is not refused where the states are few
-nothing_refused : (w : Weigh) (m : Model) (h a b c d : ℕ) (r : Refusal) → Lawful m → Faithfully m → Writable m → h ≤ 12 → a ≡ 4096 → b ≡ 1212424 → c ≡ 53248 → d ≡ 49152 → (x : Result Written Refusal) → x ≡ outcome m a b → after_writing x (answer_of w (book_model m) h c d) ≡ Err r → ⊥
+nothing_refused : (w : Weigh) (m : Model) (h a b c d : ℕ) (r : Refusal) → Lawful m → Represents m → Writable m → h ≤ 12 → a ≡ 4096 → b ≡ 1212424 → c ≡ 53248 → d ≡ 49152 → (x : Result Written Refusal) → x ≡ outcome m a b → after_writing x (answer_of w (book_model m) h c d) ≡ Err r → ⊥
 nothing_refused w m h a b c d r law faithful few short codes bytes worths choices (Err q) is e = omega (arith, few, (passed m law q (Err q) a b codes bytes refl is).1)
 nothing_refused w m h a b c d r law faithful few short codes bytes worths choices (Ok v) is e =
     let span : (book_model m).span ≤ 4096 = subst (λ n. n ≤ 4096) (sym (faithful.copies few).states) few in
@@ -44,7 +44,7 @@ nothing_refused w m h a b c d r law faithful few short codes bytes worths choice
     omega arith
 
 -- what the call answers whose sizes were surveyed
-pub plan_told : (w : Weigh) (g : Model) (fs : List Floor) (m : Model) (h : ℕ) (t : Tables) (r : Result Plan Unplanned) → Lawful m → Faithfully m → Writable m → h ≤ 12 → length t.codes.now ≡ 4096 → length t.bytes.now ≡ 1212424 → length t.worths.now ≡ 53248 → length t.choices.now ≡ 49152
+pub plan_told : (w : Weigh) (g : Model) (fs : List Floor) (m : Model) (h : ℕ) (t : Tables) (r : Result Plan Unplanned) → Lawful m → Represents m → Writable m → h ≤ 12 → length t.codes.now ≡ 4096 → length t.bytes.now ≡ 1212424 → length t.worths.now ≡ 53248 → length t.choices.now ≡ 49152
     → PlansAs w m h t r → IfOk r (IsPlanOf w g fs m h) → PlansOr w g fs m h r
 plan_told w g fs m h t (Ok p) law faithful few short codes bytes worths choices answer is = is
 plan_told w g fs m h t (Err (Refused r)) law faithful few short codes bytes worths choices answer is =

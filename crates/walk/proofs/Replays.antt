@@ -4,7 +4,8 @@ use Rattle.std.proofs.Math.Seq.{set-append_seam}
 use Rattle.std.proofs.lemmas.List.{take_all, take_more, take-append-drop, length-take, take_min, drop_min}
 use Rattle.model.specs.Models.{Model}
 use Rattle.walk.specs.declared.Step.{Step}
-use Rattle.walk.specs.Walker.{Walk, Turn, begun, turn, step, run, reached}
+use Rattle.walk.specs.Turns.{Turn}
+use Rattle.walk.specs.Walker.{Walk, begun, turn, step, run, reached}
 
 module _ (d : ℕ → ℕ) (m : Model) where
   run-push : (w : Walk) (ns : List ℕ) (n : ℕ) → run d m w (ns ++ (n ∷ [])) ≡ run d m w ns ++ (step m (turn d m (reached d m w ns) n) ∷ [])

@@ -1,3 +1,4 @@
+pub mod Turns
 pub mod Walker
 pub mod Reckoner
 pub mod Views

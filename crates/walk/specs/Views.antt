@@ -7,13 +7,14 @@ use Rattle.walk.specs.declared.states.Standing.{Standing}
 use Rattle.walk.specs.declared.walker.Turned.{Turned}
 use Rattle.walk.specs.declared.walker.Walker.{Walker}
 use Rattle.walk.specs.declared.walker.Walker.TheVariants as walker
-use Rattle.walk.specs.Walker.{Stand, Walk, standing, choosing, Turn, goes, refuses}
+use Rattle.walk.specs.Turns.{Turn, goes, refuses}
+use Rattle.walk.specs.Walker.{Stand, Walk, standing, choosing}
 
 abbrev pub stand_of : Standing → Stand
 stand_of s = record { state = s.state; slot = s.slot; total = s.total }
 
 abbrev pub from_of : Chosen → Stand
-from_of c = record { state = c.state; slot = c.slot; total = c.total }
+from_of c = stand_of c.standing
 
 abbrev pub walk_of : Walker → Walk
 walk_of (walker.Standing s) = standing (stand_of s)

@@ -1,13 +1,13 @@
 -- A walk along a model by someone who knows only the present state, the slot, the total and the open choice. Each number is a choice
 -- where none is open, and else tells an outcome of the open choice.
-use Rattle.std.specs.Prelude.{ℕ, ◌+◌, Bool, true, false, cond, List, [], ◌∷◌, ℤ, pos, ◌+ℤ◌, ◌*ℤ◌, Ok, Err, Result, Some, None, Option, nat_lt}
+use Rattle.std.specs.Prelude.{ℕ, ◌+◌, Bool, true, false, List, [], ◌∷◌, ℤ, pos, ◌+ℤ◌, ◌*ℤ◌, Ok, Err, Result, Some, None, Option, nat_lt}
 use Rattle.std.specs.List.{slice_get}
 use Rattle.model.specs.declared.Outcome.{Outcome}
 use Rattle.model.specs.Models.{Model}
-use Rattle.refusal.specs.declared.Refusal.{Refusal}
-use Rattle.refusal.specs.declared.Refusal.TheVariants.{NotOffered, NoSuchOutcome, LastSlot}
+use Rattle.refusal.specs.declared.Refusal.TheVariants.{NoSuchOutcome}
 use Rattle.walk.specs.declared.Sight.{Sight}
 use Rattle.walk.specs.declared.Step.{Step}
+use Rattle.walk.specs.Turns.{Turn, goes, refuses, turned, choice_refusal}
 
 pub record Stand : Type 0 where
   pub state : ℕ
@@ -33,32 +33,29 @@ abbrev pub chosen_in : Walk → Option ℕ
 chosen_in (standing s) = None
 chosen_in (choosing s a) = Some a
 
--- the answer to a number, and what is after it
-pub record Turn (W : Type 0) : Type 0 where
-  pub refused : Option Refusal
-  pub next : W
-
-abbrev pub goes : {W : Type 0} → W → Turn W
-goes w = record { refused = None; next = w }
-
--- a refusal changes nothing: w is what was before
-abbrev pub refuses : {W : Type 0} → Refusal → W → Turn W
-refuses why w = record { refused = Some why; next = w }
-
 -- discounts are by slot
 abbrev pub opened : (ℕ → ℕ) → Model → Stand
-opened discount m = record { state = m.start; slot = 0; total = pos (discount 0) *ℤ m.reward m.start }
+opened discount m = record {
+  state = m.start;
+  slot = 0;
+  total = pos (discount 0) *ℤ m.reward m.start;
+}
 
 abbrev pub begun : (ℕ → ℕ) → Model → Walk
 begun discount m = standing (opened discount m)
 
 -- a choice: refused in the last slot, then where the action is not offered
 abbrev pub choice : Model → Stand → ℕ → Turn Walk
-choice m s a = cond (nat_lt s.slot 12) (cond (m.offered s.state a) (goes (choosing s a)) (refuses NotOffered (standing s))) (refuses LastSlot (standing s))
+choice m s a =
+    turned (choice_refusal (nat_lt s.slot 12) (m.offered s.state) a) (standing s) (choosing s a)
 
 -- an outcome moves on by one slot and adds that slot's reward
 abbrev pub arrived : (ℕ → ℕ) → Model → Stand → Outcome → Stand
-arrived discount m s o = record { state = o.target; slot = s.slot + 1; total = s.total +ℤ (pos (discount (s.slot + 1)) *ℤ m.reward o.target) }
+arrived discount m s o = record {
+  state = o.target;
+  slot = s.slot + 1;
+  total = s.total +ℤ (pos (discount (s.slot + 1)) *ℤ m.reward o.target);
+}
 
 abbrev pub told : (ℕ → ℕ) → Model → Stand → ℕ → Option Outcome → Turn Walk
 told discount m s a (Some o) = goes (standing (arrived discount m s o))
@@ -74,7 +71,12 @@ turn discount m (choosing s a) n = telling discount m s a n
 
 -- what a walk has: the site state is the ground of the present state
 abbrev pub sight_of : Model → Stand → Sight
-sight_of m s = record { site = m.site s.state; slot = s.slot; reward = m.reward s.state; total = s.total }
+sight_of m s = record {
+  site = m.site s.state;
+  slot = s.slot;
+  reward = m.reward s.state;
+  total = s.total;
+}
 
 abbrev pub walk_has : Model → Walk → Sight
 walk_has m (standing s) = sight_of m s
@@ -92,7 +94,8 @@ step m t = record { refusal = t.refused; sight = walk_has m t.next }
 -- a run of numbers: the step of each
 unfoldable pub run : (ℕ → ℕ) → Model → Walk → List ℕ → List Step
 run discount m w [] = []
-run discount m w (n ∷ ns) = step m (turn discount m w n) ∷ run discount m (turn discount m w n).next ns
+run discount m w (n ∷ ns) =
+    step m (turn discount m w n) ∷ run discount m (turn discount m w n).next ns
 
 -- where it leads
 unfoldable pub reached : (ℕ → ℕ) → Model → Walk → List ℕ → Walk

@@ -6,7 +6,6 @@ ghost use Rattle.std.specs.Prelude.{◌≡◌};
 
 use refusal::Refusal;
 
-mod looks;
 mod runs;
 mod states;
 mod walker;
@@ -15,7 +14,8 @@ pub use runs::replay;
 pub use states::{Chosen, Standing};
 pub use walker::{Turned, Walker};
 
-// What a walk has: the site state, the slot, the reward there and the total.
+/// What a walk has: the site state, the slot, the reward there, and the total of the rewards so far, each times the discount of its slot
+/// in 256ths.
 #[derive(Clone, Copy, Debug, PartialEq, Eq)]
 pub struct Sight {
     pub site: u64,
@@ -24,15 +24,15 @@ pub struct Sight {
     pub total: i32,
 }
 
-// What a number did to a walk, and what the walk has after it.
+/// What a number did to a walk, and what the walk has after it.
 #[derive(Clone, Copy, Debug, PartialEq, Eq)]
 pub struct Step {
     pub refusal: Option<Refusal>,
     pub sight: Sight,
 }
 
-// What a walk through numbers had at its opening and has at its end, and whether it closed there. Where it did not, an outcome of the open
-// choice is missing.
+/// What a walk through numbers had at its opening and has at its end, and whether it closed there. Where it did not, an outcome of the
+/// open choice is missing.
 #[derive(Clone, Copy, Debug, PartialEq, Eq)]
 pub struct Course {
     pub opening: Sight,
@@ -40,7 +40,7 @@ pub struct Course {
     pub closed: bool,
 }
 
-// A refusal, and the walk as it was before.
+/// A refusal, and the walk as it was before.
 #[derive(Drop)]
 pub struct Refused<W> {
     pub refusal: Refusal,

@@ -8,8 +8,8 @@ ghost use Rattle.weighing.specs.Discounts.{discount_of};
 use crate::{Course, Sight, Step, Turned, Walker};
 use model::SiteModel;
 
-// Opens a walk, gives it the numbers in order, and closes it where it can be closed. The table takes what each number did, and what the
-// walk had after it, for as many numbers as it has places.
+/// Opens a walk, gives it the numbers in order, and closes it where it can be closed. The table takes what each number did, and what the
+/// walk had after it, for as many numbers as it has places.
 pub fn replay<M: SiteModel>(model: &M, numbers: &[u32], steps: &mut [Step]) -> Course
     ensures steps { steps.new ≡ run discount_of (M.SiteModel.meaning model.now)
         (begun discount_of (M.SiteModel.meaning model.now)) (take (length steps.old) numbers.now) ++
@@ -48,8 +48,8 @@ fn stepped<M: SiteModel>(model: &M, numbers: &[u32], steps: &mut [Step]) -> Walk
 
 // Gives a walk further numbers, of which nothing is told.
 fn led<M: SiteModel>(model: &M, walker: Walker, numbers: &[u32]) -> Walker
-    ensures { walk_of result ≡ reached discount_of (M.SiteModel.meaning model.now) (walk_of walker)
-        numbers.now }
+    ensures { walk_of result ≡
+        reached discount_of (M.SiteModel.meaning model.now) (walk_of walker) numbers.now }
 {
     let mut walker = walker;
     for number in numbers {

@@ -1,5 +1,5 @@
 // A walk that takes numbers one by one, whether a choice is open or not.
-ghost use Rattle.std.specs.Prelude.{◌≡◌, true, false};
+ghost use Rattle.std.specs.Prelude.{◌≡◌, IsTrue, IsFalse};
 ghost use Rattle.walk.specs.Reckoner.{AgreesOverAll, BesideOverAll};
 ghost use Rattle.walk.specs.Views.{walk_of, turn_of, choice_of, telling_of, ending_of};
 ghost use Rattle.walk.specs.Walker.{begun, is_choosing, stands_at, turn, ending, walk_has};
@@ -9,13 +9,14 @@ use crate::{Chosen, Refused, Sight, Standing};
 use model::SiteModel;
 use refusal::Refusal;
 
+/// A walk, with no choice open or with one.
 #[derive(Drop)]
 pub enum Walker {
     Standing(Standing),
     Chosen(Chosen),
 }
 
-// Why a number was refused, where it was, and the walk after it.
+/// Why a number was refused, where it was, and the walk after it.
 #[derive(Drop)]
 pub struct Turned {
     pub refusal: Option<Refusal>,
@@ -23,7 +24,7 @@ pub struct Turned {
 }
 
 impl Walker {
-    // Opens a walk, as `Standing::open` does.
+    /// Opens a walk, as `Standing::open` does.
     pub fn open<M: SiteModel>(model: &M) -> Walker
         ensures begun { walk_of result ≡ begun discount_of (M.SiteModel.meaning model.now) }
         ensures agrees { AgreesOverAll (M.SiteModel.meaning model.now) }
@@ -32,17 +33,18 @@ impl Walker {
         Walker::Standing(Standing::open(model))
     }
 
-    // Whether a choice is open.
+    /// Whether a choice is open.
     pub fn is_choosing(&self) -> bool
         ensures { result ≡ is_choosing (walk_of self.now) }
     {
         matches!(self, Walker::Chosen(_))
     }
 
-    // Chooses an action. Where a choice is open, tell its outcome first: the check refuses the call.
+    /// Chooses an action. Where a choice is open, tell its outcome first: the check refuses the call.
     pub fn choose<M: SiteModel>(self, model: &M, action: u32) -> Turned
-        requires tell_its_outcome_first { is_choosing (walk_of self) ≡ false }
-        ensures { turn_of result ≡ turn discount_of (M.SiteModel.meaning model.now) (walk_of self) action }
+        requires tell_its_outcome_first { IsFalse (is_choosing (walk_of self)) }
+        ensures { turn_of result ≡
+            turn discount_of (M.SiteModel.meaning model.now) (walk_of self) action }
     {
         let Walker::Standing(standing) = self else {
             unreachable!()
@@ -59,10 +61,11 @@ impl Walker {
         }
     }
 
-    // Tells an outcome. Where no choice is open, choose first: the check refuses the call.
+    /// Tells an outcome. Where no choice is open, choose first: the check refuses the call.
     pub fn tell<M: SiteModel>(self, model: &M, number: u32) -> Turned
-        requires choose_first { is_choosing (walk_of self) ≡ true }
-        ensures { turn_of result ≡ turn discount_of (M.SiteModel.meaning model.now) (walk_of self) number }
+        requires choose_first { IsTrue (is_choosing (walk_of self)) }
+        ensures { turn_of result ≡
+            turn discount_of (M.SiteModel.meaning model.now) (walk_of self) number }
     {
         let Walker::Chosen(chosen) = self else {
             unreachable!()
@@ -79,9 +82,10 @@ impl Walker {
         }
     }
 
-    // Takes a number: a choice where none is open, and else the open choice's outcome.
+    /// Takes a number: a choice where none is open, and else the open choice's outcome.
     pub fn turn<M: SiteModel>(self, model: &M, number: u32) -> Turned
-        ensures { turn_of result ≡ turn discount_of (M.SiteModel.meaning model.now) (walk_of self) number }
+        ensures { turn_of result ≡
+            turn discount_of (M.SiteModel.meaning model.now) (walk_of self) number }
     {
         if self.is_choosing() {
             self.tell(model, number)
@@ -90,7 +94,7 @@ impl Walker {
         }
     }
 
-    // The state of the model that the walk stands at.
+    /// The state of the model that the walk stands at.
     pub fn state(&self) -> u64
         ensures { result ≡ stands_at (walk_of self.now) }
     {
@@ -100,7 +104,7 @@ impl Walker {
         }
     }
 
-    // What the walk has.
+    /// What the walk has.
     pub fn sight<M: SiteModel>(&self, model: &M) -> Sight
         ensures { result ≡ walk_has (M.SiteModel.meaning model.now) (walk_of self.now) }
     {
@@ -110,9 +114,9 @@ impl Walker {
         }
     }
 
-    // Ends the walk, with what it has. Where a choice is open, tell its outcome first: the check refuses the call.
+    /// Ends the walk, with what it has. Where a choice is open, tell its outcome first: the check refuses the call.
     pub fn close<M: SiteModel>(self, model: &M) -> Sight
-        requires tell_its_outcome_first { is_choosing (walk_of self) ≡ false }
+        requires tell_its_outcome_first { IsFalse (is_choosing (walk_of self)) }
         ensures { result ≡ walk_has (M.SiteModel.meaning model.now) (walk_of self) }
     {
         let Walker::Standing(standing) = self else {
@@ -121,7 +125,7 @@ impl Walker {
         standing.close(model)
     }
 
-    // Ends the walk where it can end, and else gives it back.
+    /// Ends the walk where it can end, and else gives it back.
     pub fn end<M: SiteModel>(self, model: &M) -> Result<Sight, Walker>
         ensures { ending_of result ≡ ending (M.SiteModel.meaning model.now) (walk_of self) }
     {

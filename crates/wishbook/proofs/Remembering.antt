@@ -1,6 +1,6 @@
 -- A book keeps the items that its rewards need.
 use Rattle.std.proofs.Common.{◌≡◌, ℕ, ◌<◌, ◌≤◌, Bool, true, false, map, length, get_or, Ok, Err, IfOk, Result, sym, refl, ap, ◌∙◌, subst, inl, inr, ⊎_elim, arith}
-use Rattle.std.specs.List.{ContainsAt as Has}
+use Rattle.std.specs.List.{Contains}
 use Rattle.std.proofs.lemmas.List.{get_or_past}
 use Rattle.std.proofs.lemmas.Bool.{both_ways, and_parts, ltb-true, cases_lt}
 use Rattle.bounded.specs.Listed.{listed}
@@ -46,7 +46,7 @@ module _ (b : Book) (early : earlier b.nodes ≡ true) (items_are : b.items ≡ 
       (λ (past : length b.nodes ≤ i). absurd (both_ways (P True) not (sym (ap P (get_or_past b.nodes i True past)) ∙ h)))
       (cases_lt i (length b.nodes))
 
-  held_needed : (i : ℕ) → Has b.items (Held i) → NeedsHeld b i
+  held_needed : (i : ℕ) → Contains b.items (Held i) → NeedsHeld b i
   held_needed i h =
       let only = kept.held_only i h in
       ⊎_elim
@@ -54,17 +54,17 @@ module _ (b : Book) (early : earlier b.nodes ≡ true) (items_are : b.items ≡ 
       (λ back. inr (back.0, rests.only back.0 back.1 back.2, back.3))
       only.2
 
-  lasting_held : (i : ℕ) → RestsOn b i → lasting (get_or b.nodes i True) ≡ true → Has b.items (Held i)
+  lasting_held : (i : ℕ) → RestsOn b i → lasting (get_or b.nodes i True) ≡ true → Contains b.items (Held i)
   lasting_held i on lasts =
       let l = numbered lasting refl i lasts in
       kept.held_kept i l (rests.every i l on) (inl lasts)
 
-  previous_held : (i k : ℕ) → RestsOn b k → get_or b.nodes k True ≡ Previous i → Has b.items (Held i)
+  previous_held : (i k : ℕ) → RestsOn b k → get_or b.nodes k True ≡ Previous i → Contains b.items (Held i)
   previous_held i k on is =
       let in' : k < length b.nodes = numbered is_previous refl k (ap is_previous is) in
       let low : i < k = ltb-true i k (subst (λ n. operands_below k n ≡ true) is (earlier_at b.nodes k early in')) in
       let l : i < length b.nodes = omega arith in
-      let rests_i : RestsOn b i = below on (subst (λ n. Has (operands n) i) (sym is) (0, omega arith, λ d. refl)) in
+      let rests_i : RestsOn b i = below on (subst (λ n. Contains (operands n) i) (sym is) (0, omega arith, refl)) in
       kept.held_kept i l (rests.every i l rests_i) (inr (k, in', rests.every k in' on, is))
 
   pub keeps_items : KeepsItems b

@@ -1,7 +1,6 @@
 -- What a wish book comes to: the different nodes, the wishes by node number, and the memory items in order.
 -- The wishes of a book mean what its node words say: merging changes no formula and no amount. Its items are those of the nodes on which rewards rest.
-use Rattle.std.specs.Prelude.{◌≡◌, ℕ, ◌<◌, Bool, IsTrue, ◌&&◌, ◌⊎◌, ◌↔◌, List, [], ◌∷◌, map, length, slice_index, slice_index_or}
-use Rattle.std.specs.List.{ContainsAt as Has}
+use Rattle.std.specs.Prelude.{◌≡◌, ℕ, ◌<◌, Bool, IsTrue, ◌&&◌, ◌⊎◌, ◌↔◌, List, [], ◌∷◌, map, length, slice_index, slice_index_or, Contains}
 use Rattle.formula.specs.declared.Node.{Node}
 use Rattle.formula.specs.declared.Node.TheVariants.{True, Previous}
 use Rattle.formula.specs.declared.Item.{Item}
@@ -57,7 +56,7 @@ NeedsFailed b i = RestsOn b i × IsTrue (is_always (slice_index_or b.nodes i Tru
 
 -- the items of a book are those that are needed, each once, in the order of the nodes' numbers, held before failed
 pub record KeepsItems (b : Book) : Type 0 where
-  pub held : (i : ℕ) → Has b.items (Held i) ↔ NeedsHeld b i
-  pub failed : (i : ℕ) → Has b.items (Failed i) ↔ NeedsFailed b i
+  pub held : (i : ℕ) → Contains b.items (Held i) ↔ NeedsHeld b i
+  pub failed : (i : ℕ) → Contains b.items (Failed i) ↔ NeedsFailed b i
   pub rising : (j k : ℕ) (d : Item) → j < k → k < length b.items
       → rank (slice_index_or b.items j d) < rank (slice_index_or b.items k d)

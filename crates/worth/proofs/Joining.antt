@@ -1,24 +1,20 @@
 -- Joined values: they rise with the values of the targets, and those along a longer history are those of the histories.
--- For others: `joined_raises`, `joined_same`, `joined_along` and `sum_raises`.
-use Rattle.std.proofs.Common.{◌≡◌, ℕ, suc, List, [], ◌∷◌, ◌++◌, map, ℤ, ◌+ℤ◌, ◌≤ℤ◌, refl, arith}
-use Rattle.std.specs.List.{ContainsAt as Has}
-use Rattle.std.proofs.lemmas.Int.{ints}
+-- For others: `joined_raises`, `joined_same` and `joined_along`.
+use Rattle.std.proofs.Common.{◌≡◌, ℕ, suc, List, [], ◌∷◌, ◌++◌, map, ℤ, ◌≤ℤ◌, refl, arith}
+use Rattle.std.specs.List.{Contains}
 use Rattle.model.specs.declared.Outcome.{Outcome}
 use Rattle.model.specs.Histories.{targets_of, along}
 use Rattle.weighing.specs.Weighings.{Weigh, LawfulWeigh}
 use Rattle.worth.specs.Worths.{joined_from}
 
-pub has_first : (t : ℕ) (ts : List ℕ) → Has (t ∷ ts) t
-has_first t ts = (0, omega arith, λ d. refl)
+pub has_first : (t : ℕ) (ts : List ℕ) → Contains (t ∷ ts) t
+has_first t ts = (0, omega arith, refl)
 
-pub has_later : (u : ℕ) (ts : List ℕ) (t : ℕ) → Has ts t → Has (u ∷ ts) t
+pub has_later : (u : ℕ) (ts : List ℕ) (t : ℕ) → Contains ts t → Contains (u ∷ ts) t
 has_later u ts t (k, l, at) = (suc k, omega arith, at)
 
-pub sum_raises : (c x y : ℤ) → x ≤ℤ y → (c +ℤ x) ≤ℤ (c +ℤ y)
-sum_raises c x y h = omega (arith, ints)
-
 -- raising the values of the targets never lowers the joined value
-pub joined_raises : (w : Weigh) → LawfulWeigh w → (lower upper : ℕ → ℤ) (x y : ℤ) (os : List Outcome) → x ≤ℤ y → ((t : ℕ) → Has (targets_of os) t → lower t ≤ℤ upper t) → joined_from w lower x os ≤ℤ joined_from w upper y os
+pub joined_raises : (w : Weigh) → LawfulWeigh w → (lower upper : ℕ → ℤ) (x y : ℤ) (os : List Outcome) → x ≤ℤ y → ((t : ℕ) → Contains (targets_of os) t → lower t ≤ℤ upper t) → joined_from w lower x os ≤ℤ joined_from w upper y os
 joined_raises w law lower upper x y [] h each = h
 joined_raises w law lower upper x y (o ∷ os) h each =
     joined_raises w law lower upper (w.join x o.weight (lower o.target)) (w.join y o.weight (upper o.target)) os
@@ -26,7 +22,7 @@ joined_raises w law lower upper x y (o ∷ os) h each =
     (λ t has. each t (has_later o.target (targets_of os) t has))
 
 -- only the values of the targets count
-pub joined_same : (w : Weigh) (values others : ℕ → ℤ) (x y : ℤ) (os : List Outcome) → x ≡ y → ((t : ℕ) → Has (targets_of os) t → values t ≡ others t) → joined_from w values x os ≡ joined_from w others y os
+pub joined_same : (w : Weigh) (values others : ℕ → ℤ) (x y : ℤ) (os : List Outcome) → x ≡ y → ((t : ℕ) → Contains (targets_of os) t → values t ≡ others t) → joined_from w values x os ≡ joined_from w others y os
 joined_same w values others x y [] e each = e
 joined_same w values others x y (o ∷ os) e each =
     joined_same w values others (w.join x o.weight (values o.target)) (w.join y o.weight (others o.target)) os

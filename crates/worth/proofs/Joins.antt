@@ -3,7 +3,7 @@
 use Rattle.std.proofs.Common.{◌≡◌, ℕ, zero, suc, ◌+◌, ◌*◌, ◌^◌, ◌≤◌, min, List, [], ◌∷◌, length, ℤ, pos, ◌+ℤ◌, ◌*ℤ◌, nat_abs, refl, ap, ◌∙◌, le_trans, le_refl, mul_assoc, add-mul, mul-le-mul, mul-le-mul_left, mul-suc, arith, lit≤}
 use native.Mathlib.Nat.{pow-succ', pow-le-pow_right, min-eq_left}
 use Rattle.std.specs.Int.{int_min}
-use Rattle.std.specs.List.{ContainsAt as Has}
+use Rattle.std.specs.List.{Contains}
 use Rattle.std.proofs.lemmas.List.Sums.{sum_by-cons}
 use Rattle.model.specs.declared.Outcome.{Outcome}
 use Rattle.model.specs.Histories.{targets_of}
@@ -15,7 +15,7 @@ use Rattle.worth.proofs.Sizes.{abs_sum, abs_times, abs_min, abs_first, held_smal
 
 -- the values of the targets are the same, and of size at most b
 abbrev pub Same : (ℕ → ℤ) → (ℕ → ℤ) → ℕ → List Outcome → Type 0
-Same values others b os = (t : ℕ) → Has (targets_of os) t → (values t ≡ others t) × (nat_abs (others t) ≤ b)
+Same values others b os = (t : ℕ) → Contains (targets_of os) t → (values t ≡ others t) × (nat_abs (others t) ≤ b)
 
 -- nothing is held back where the values with k slots left are of size at most `size k`
 pub record Frees (w free : Weigh) (size : ℕ → ℕ) : Type 0 where

@@ -1,6 +1,5 @@
 -- What is picked among the offered actions: the lowest that reaches the largest value. For others: `pick_told`, the record `Picks`
--- of any pick; `pick_offered`, `pick_largest` and `pick_lowest`, its parts; `pick_some`, that there is a pick where an action is
--- offered; `pick_same`, that only the values of offered actions count.
+-- of any pick; `pick_some`, that there is a pick where an action is offered; `pick_same`, that only the values of offered actions count.
 use Rattle.std.proofs.Common.{◌≡◌, ℕ, zero, suc, ◌<◌, Bool, true, false, cond, ℤ, ◌≤ℤ◌, ◌<ℤ◌, Some, None, Option, sym, refl, ap, ◌∙◌, subst, ⊎_elim, arith}
 use lib.Signed.{lt_z, ≤ℤ_refl}
 use Rattle.std.proofs.lemmas.Int.{ints}
@@ -81,17 +80,6 @@ module _ (offers : ℕ → Bool) (values : ℕ → ℤ) where
   pick_some n a l t =
       let found : (o : Option Pick) → Told n o → (p : Pick) × (o ≡ Some p) = λ o. elim o as (λ o. Told n o → (p : Pick) × (o ≡ Some p)) [ None ↦ (λ told. absurd (told a l t)) | Some p ↦ (λ told. (p, refl)) ] in
       found (pick_below offers values n) (told_below n)
-
-  pub pick_offered : (n : ℕ) (p : Pick) → pick_below offers values n ≡ Some p → (p.action < n) × (offers p.action ≡ true) × (p.value ≡ values p.action)
-  pick_offered n p e = let told = pick_told n p e in (told.inside, told.offered, told.valued)
-
-  pub pick_largest : (n a : ℕ) → a < n → offers a ≡ true → (p : Pick) × ((pick_below offers values n ≡ Some p) × (values a ≤ℤ p.value))
-  pick_largest n a l t =
-      let found = pick_some n a l t in
-      (found.0, (found.1, (pick_told n found.0 found.1).largest a l t))
-
-  pub pick_lowest : (n : ℕ) (p : Pick) → pick_below offers values n ≡ Some p → (a : ℕ) → a < p.action → offers a ≡ true → values a <ℤ p.value
-  pick_lowest n p e = (pick_told n p e).lowest
 
 -- only the values of offered actions count
 pub pick_same : (offers : ℕ → Bool) (values others : ℕ → ℤ) → ((a : ℕ) → offers a ≡ true → values a ≡ others a) → (n : ℕ) → pick_below offers values n ≡ pick_below offers others n

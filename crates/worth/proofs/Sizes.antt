@@ -1,11 +1,11 @@
--- Sizes of signed numbers, of discounts and of what a state earns by itself. For others: `held_small`, that a number of size at most
+-- Sizes of signed numbers and of what a state earns by itself. For others: `held_small`, that a number of size at most
 -- 2^59 is not held back; `abs_sum`, `abs_times`, `abs_min` and `abs_first`, sizes of sums, products and lesser numbers; `own_size`.
-use Rattle.std.proofs.Common.{◌≡◌, ℕ, zero, suc, ◌+◌, ◌-◌, ◌*◌, ◌^◌, ◌≤◌, List, [], ◌∷◌, get_or, ℤ, pos, negsuc, ◌+ℤ◌, ◌*ℤ◌, neg_ℤ, nat_abs, refl, le_refl, mul_assoc, mul-le-mul, arith, lit≤}
+use Rattle.std.proofs.Common.{◌≡◌, ℕ, suc, ◌+◌, ◌-◌, ◌*◌, ◌^◌, ◌≤◌, ℤ, pos, negsuc, ◌+ℤ◌, ◌*ℤ◌, neg_ℤ, nat_abs, refl, le_refl, mul_assoc, mul-le-mul, arith}
 use Rattle.std.specs.Int.{int_min}
-use Rattle.std.specs.List.{AllByRecursion as All}
 use Rattle.std.proofs.lemmas.Int.{ints, clamps}
-use Rattle.weighing.specs.Discounts.{discounts, discount_of}
+use Rattle.weighing.specs.Discounts.{discount_of}
 use Rattle.weighing.specs.Weighings.{Weigh, most, held}
+use Rattle.weighing.proofs.Table.{discounts_ruled}
 use Rattle.worth.specs.Worths.{own_part}
 
 pub abs_sum : (x y : ℤ) → nat_abs (x +ℤ y) ≤ nat_abs x + nat_abs y
@@ -28,19 +28,10 @@ abs_first b v h k = omega (arith, ints, clamps)
 pub held_small : (x : ℤ) → nat_abs x ≤ 2 ^ 59 → held x ≡ x
 held_small x h = omega (arith, ints, clamps)
 
-get_or-below : (b : ℕ) (xs : List ℕ) → All (λ x. x ≤ b) xs → (i : ℕ) → get_or xs i 0 ≤ b
-get_or-below b [] each i = omega arith
-get_or-below b (x ∷ xs) each zero = each.0
-get_or-below b (x ∷ xs) each (suc i) = get_or-below b xs each.1 i
-
-pub discount_below : (slot : ℕ) → discount_of slot ≤ 256
-discount_below slot =
-    get_or-below 256 discounts (lit≤ tt, (lit≤ tt, (lit≤ tt, (lit≤ tt, (lit≤ tt, (lit≤ tt, (lit≤ tt, (lit≤ tt, (lit≤ tt, (lit≤ tt, (lit≤ tt, (lit≤ tt, (lit≤ tt, tt))))))))))))) slot
-
 -- 256 times 2000 is the most that a state earns by itself, in units
 pub own_size : (w : Weigh) (horizon k : ℕ) (r : ℤ) → nat_abs r ≤ 2000 → nat_abs (own_part w discount_of horizon k r) ≤ w.unit ^ k * 512000
 own_size w horizon k r small =
     let times : nat_abs (own_part w discount_of horizon k r) ≡ w.unit ^ k * discount_of (horizon - k) * nat_abs r = abs_times (w.unit ^ k * discount_of (horizon - k)) r in
-    let each : w.unit ^ k * discount_of (horizon - k) * nat_abs r ≤ w.unit ^ k * 256 * 2000 = mul-le-mul (mul-le-mul (le_refl (w.unit ^ k)) (discount_below (horizon - k))) small in
+    let each : w.unit ^ k * discount_of (horizon - k) * nat_abs r ≤ w.unit ^ k * 256 * 2000 = mul-le-mul (mul-le-mul (le_refl (w.unit ^ k)) (discounts_ruled.bound (horizon - k))) small in
     let all : w.unit ^ k * 256 * 2000 ≡ w.unit ^ k * 512000 = mul_assoc (w.unit ^ k) 256 2000 in
     omega (arith, times, each, all)

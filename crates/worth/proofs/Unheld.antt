@@ -22,7 +22,7 @@ module _ (w free : Weigh) (size : ℕ → ℕ) (frees : Frees w free size) (m : 
   own_same k s = ap (λ n. own_part (record { unit = n; first = free.first; join = free.join }) discount_of horizon k (m.reward s)) frees.units
 
   own_small : (k s : ℕ) → nat_abs (own_part free discount_of horizon k (m.reward s)) ≤ free.unit ^ k * 512000
-  own_small k s = own_size free horizon k (m.reward s) (omega (arith, law.bounded s, law.modest))
+  own_small k s = own_size free horizon k (m.reward s) (omega (arith, law.shows.bounded s, law.shows.modest))
 
   -- a worth is what it is with nothing held, and of bounded size
   unheld : (k s : ℕ) → k ≤ horizon → m.state s ≡ true → (holding k s ≡ freely k s) × (nat_abs (freely k s) ≤ size k)
@@ -31,9 +31,9 @@ module _ (w free : Weigh) (size : ℕ → ℕ) (frees : Frees w free size) (m : 
   unheld (suc k) s left state =
       let low : suc k ≤ 12 = omega arith in
       let joins : (a : ℕ) → m.offered s a ≡ true → (joined w (holding k) (m.outcomes s a) ≡ joined free (freely k) (m.outcomes s a)) × (nat_abs (joined free (freely k) (m.outcomes s a)) + free.unit ^ suc k * 512000 ≤ size (suc k)) =
-      λ a off. frees.joins k low (holding k) (freely k) (m.outcomes s a) (law.some s a off) (law.whole s a off) (λ t has. unheld k t (omega arith) (target_state m law s a t has)) in
-      let waiting = law.waits s state in
-      let best = pick_some (m.offered s) (λ a. joined free (freely k) (m.outcomes s a)) m.actions 0 (law.offers s 0 waiting).1 waiting in
+      λ a off. frees.joins k low (holding k) (freely k) (m.outcomes s a) (law.moves.some s a off) (law.moves.whole s a off) (λ t has. unheld k t (omega arith) (target_state m law s a t has)) in
+      let waiting = law.moves.waits s state in
+      let best = pick_some (m.offered s) (λ a. joined free (freely k) (m.outcomes s a)) m.actions 0 (law.moves.offers s 0 waiting).1 waiting in
       let told = pick_told (m.offered s) (λ a. joined free (freely k) (m.outcomes s a)) m.actions best.0 best.1 in
       let picks : pick_at w m (holding k) s ≡ Some best.0 = pick_same (m.offered s) (λ a. joined w (holding k) (m.outcomes s a)) (λ a. joined free (freely k) (m.outcomes s a)) (λ a off. (joins a off).0) m.actions ∙ best.1 in
       let value : nat_abs best.0.value + free.unit ^ suc k * 512000 ≤ size (suc k) = subst (λ v. nat_abs v + free.unit ^ suc k * 512000 ≤ size (suc k)) (sym told.valued) (joins best.0.action told.offered).1 in

@@ -1,5 +1,5 @@
 -- Under mean and under worst no worth is ever held back: every worth is what the rule gives with nothing held.
-use Rattle.std.specs.Prelude.{◌≡◌, ℕ, ◌≤◌, true}
+use Rattle.std.specs.Prelude.{◌≡◌, ℕ, ◌≤◌, IsTrue}
 use Rattle.model.specs.Models.{Model, Lawful}
 use Rattle.weighing.specs.Discounts.{discount_of}
 use Rattle.weighing.specs.Weighings.{Weigh, mean, worst, free_mean, free_worst}
@@ -7,7 +7,7 @@ use Rattle.worth.specs.Worths.{worth_by, worth_of}
 
 abbrev pub NeverHeld : Weigh → Weigh → Type 0
 NeverHeld w free =
-    (m : Model) → Lawful m → (horizon k s : ℕ) → horizon ≤ 12 → k ≤ horizon → m.state s ≡ true
+    (m : Model) → Lawful m → (horizon k s : ℕ) → horizon ≤ 12 → k ≤ horizon → IsTrue (m.state s)
     → worth_of w discount_of m horizon k s ≡ worth_by (λ x. x) free discount_of m horizon k s
 
 pub record NothingHeldBack : Type 0 where

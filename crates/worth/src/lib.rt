@@ -8,14 +8,14 @@ ghost use Rattle.worth.specs.Worths.{better};
 
 use weighing::MOST;
 
-// An action and the joined value of its outcomes.
+/// An action and the joined value of its outcomes.
 #[derive(Clone, Copy, Debug, PartialEq, Eq)]
 pub struct Pick {
     pub action: u32,
     pub value: i64,
 }
 
-// One action more: it is taken only where its value is larger.
+/// One action more: it is taken only where its value is larger.
 pub fn better(best: Option<Pick>, next: Pick) -> Option<Pick>
     ensures { result ≡ better best next.action next.value }
 {
@@ -25,7 +25,7 @@ pub fn better(best: Option<Pick>, next: Pick) -> Option<Pick>
     }
 }
 
-// The largest size that a worth can have: under mean and under worst no worth is ever held back.
+/// The largest size that a worth can have: under mean and under worst no worth is ever held back.
 pub fn largest_worth() -> i64
     ensures value { result ≡ pos (2 ^ 59) }
     ensures free { NothingHeldBack }

@@ -1,5 +1,6 @@
 -- The whole book in its table, and both tables after writing out.
 use Rattle.std.proofs.Common.{◌≡◌, ℕ, ◌-◌, ◌*◌, ◌≤◌, true, false, ltb, List, [], ◌∷◌, ◌++◌, map, length, drop, replicate, Some, None, Option, sym, ap, ◌∙◌, subst, ⊎_elim, arith}
+use Rattle.std.specs.Option.{OnSome}
 use Rattle.std.proofs.lemmas.List.{length-map, take-append-drop, drop-replicate}
 use Rattle.std.proofs.lemmas.Bool.{cases_Bool, cond-true, cond-false, ltb-false}
 use Rattle.std.specs.declared.cmp.PartialEq as equality
@@ -20,7 +21,7 @@ use Rattle.sitelayout.specs.Site.{Site}
 use Rattle.words.specs.Format.{file}
 use Rattle.words.specs.Words.{bytes_of, end_word}
 use Rattle.writeout.specs.Book.{mark_of, cells_of, book_of}
-use Rattle.writeout.specs.Tables.{Writable, words_in, WrittenIn, Faithfully}
+use Rattle.writeout.specs.Tables.{Writable, words_in, Represents}
 use Rattle.writeout.proofs.Back.{book_reads_back}
 use Rattle.writeout.proofs.Carrying.{book_carries}
 use Rattle.writeout.proofs.Closed.{Closed}
@@ -54,7 +55,7 @@ laid_bytes ws (Some n) bs k h e = h.1.1
 laid_bytes ws None bs k h e = absurd (omega (arith, h, (counted_some (length bs) ws k (sym e)).1))
 
 -- what a count says of the table
-pub written_book : (b : Site) (p : Pen) (space : ℕ) → Laid (site_words b ++ (end_word (length (site_words b)) ∷ [])) p → length p.bytes.now ≡ space → (r : Option ℕ) → r ≡ words_in space b → (x : List ℕ) → x ≡ p.bytes.now → WrittenIn r x b
+pub written_book : (b : Site) (p : Pen) (space : ℕ) → Laid (site_words b ++ (end_word (length (site_words b)) ∷ [])) p → length p.bytes.now ≡ space → (r : Option ℕ) → r ≡ words_in space b → (x : List ℕ) → x ≡ p.bytes.now → OnSome r (x ≡ padded (length x) (file (site_words b)))
 written_book b p space laid size None e x x-is = tt
 written_book b p space laid size (Some k) e x x-is =
     subst (λ l. l ≡ padded (length l) (file (site_words b))) (sym x-is)
@@ -64,10 +65,9 @@ written_book b p space laid size (Some k) e x x-is =
 pub codes_left : {k : key.Ghosts ℕ} {e : equality.Ghosts ℕ} (c : Register ℕ k e) (cs before x : List ℕ) → listed c ≡ cs → drop c.len c.keys.now ≡ drop c.len before → before ≡ replicate (length before) 0 → length c.keys.now ≡ length before → x ≡ c.keys.now → x ≡ padded (length x) cs
 codes_left c cs before x is rest zeros room x-is =
     let size : length before - c.len ≡ length x - length cs = omega (arith, ap length is, listed-length c, ap length x-is) in
-    x-is
-    ∙ sym (take-append-drop c.len c.keys.now)
-    ∙ ap (λ l. l ++ drop c.len c.keys.now) is
-    ∙ ap (λ l. cs ++ l) (rest ∙ ap (drop c.len) zeros ∙ drop-replicate c.len (length before) 0 ∙ ap (λ n. replicate n 0) size)
+    let after : drop c.len c.keys.now ≡ replicate (length before - c.len) 0 = rest ∙ ap (drop c.len) zeros ∙ drop-replicate c.len (length before) 0 in
+    let table : c.keys.now ≡ cs ++ replicate (length before - c.len) 0 = sym (take-append-drop c.len c.keys.now) ∙ (λ i. is i ++ after i) in
+    x-is ∙ table ∙ ap (λ n. cs ++ replicate n 0) size
 
 closed : (m : Model) → Lawful m → Writable m → Closed m (codes_of m)
 closed m law few =
@@ -82,8 +82,8 @@ closed m law few =
       first = codes_first m;
     }
 
-pub faithfully : (m : Model) → Lawful m → Faithfully m
-faithfully m law = record {
+pub represents : (m : Model) → Lawful m → Represents m
+represents m law = record {
   lists = search_lists m law;
   exceeds = search_exceeds m law;
   back = λ few. book_reads_back m law (codes_of m) (closed m law few);

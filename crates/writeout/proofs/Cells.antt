@@ -1,4 +1,5 @@
--- The cells of a book that is written out: how many there are, and which stands where. For others: `length-cells` and `cell_copied`.
+-- The cells of a book that is written out: how many there are, and which stands where. For others: `length-below`,
+-- `length-cells` and `cell_copied`.
 use Rattle.std.proofs.Common.{◌≡◌, ℕ, zero, suc, ◌+◌, ◌-◌, ◌*◌, ◌<◌, ◌≤◌, List, [], ◌∷◌, length, get_or, refl, ap, ◌∙◌, ⊎_elim, arith}
 use Rattle.std.proofs.lemmas.List.{length-append, length_push, get_or_append_left, get_or-append_right, get_or_push}
 use Rattle.std.proofs.lemmas.Bool.{cases_lt}
@@ -6,7 +7,7 @@ use Rattle.model.specs.Models.{Model}
 use Rattle.writeout.specs.Book.{cell_of, cells_below, cells_of}
 
 module _ (m : Model) (codes : List ℕ) where
-  length-below : (c n : ℕ) → length (cells_below m codes c n) ≡ n
+  pub length-below : (c n : ℕ) → length (cells_below m codes c n) ≡ n
   length-below c zero = refl
   length-below c (suc n) = omega (arith, length_push (cells_below m codes c n) (cell_of m codes c n), length-below c n)
 

@@ -1,7 +1,7 @@
 -- The book that is written out says of each listed state what the model says: `book_copies`. For others too: `book_cell`.
 use Rattle.std.proofs.Common.{◌≡◌, ℕ, suc, ◌+◌, ◌*◌, ◌<◌, ◌≤◌, true, false, not, ◌&&◌, ltb, List, [], ◌∷◌, map, length, get_or, ℤ, pos, ◌+ℤ◌, ◌-ℤ◌, nat_abs, sym, refl, ap, ◌∙◌, ⊎_elim, arith}
-use Rattle.std.specs.List.{ContainsAt as Has}
-use Rattle.std.proofs.ByRecursion.{has_get_or}
+use Rattle.std.specs.List.{Contains}
+use Rattle.std.proofs.lemmas.List.Elements.{Contains-get_or}
 use Rattle.std.proofs.lemmas.List.{length-map, get_or-map}
 use Rattle.std.proofs.lemmas.Int.{ints}
 use Rattle.std.proofs.lemmas.Bool.{cases_Bool, cases_lt, and_from, and_right, lt-ltb, le-ltb, cond-true, cond-false}
@@ -12,7 +12,7 @@ use Rattle.sitelayout.specs.declared.Mark.{Mark}
 use Rattle.sitelayout.specs.declared.Move.{Move}
 use Rattle.sitemodel.specs.Meaning.{blank, cell_at, outcome_of}
 use Rattle.writeout.specs.Book.{mark_of, move_to, cell_of, cells_of, book_of}
-use Rattle.writeout.specs.Copies.{meant, Copies}
+use Rattle.writeout.specs.Copies.{outcome_in_model, Copies}
 use Rattle.writeout.proofs.Closed.{Closed, place_code}
 use Rattle.writeout.proofs.Cells.{cell_copied}
 use Rattle.writeout.proofs.Validity.{some_cell, book_valid}
@@ -22,10 +22,10 @@ reward_back : (r : ℤ) → nat_abs r ≤ 2000 → pos (nat_abs (r +ℤ pos 2000
 reward_back r h = omega (arith, ints)
 
 -- outcomes that were put at places and read at them again
-moves_back : (codes : List ℕ) (os : List Outcome) → ((j : ℕ) (d : Outcome) → j < length os → Has codes (get_or os j d).target) → map (meant codes) (map outcome_of (map (move_to codes) os)) ≡ os
+moves_back : (codes : List ℕ) (os : List Outcome) → ((j : ℕ) (d : Outcome) → j < length os → Contains codes (get_or os j d).target) → map (outcome_in_model codes) (map outcome_of (map (move_to codes) os)) ≡ os
 moves_back codes [] has = refl
 moves_back codes (o ∷ os) has =
-    let here : meant codes (outcome_of (move_to codes o)) ≡ o = ap (λ (t : ℕ). record { target = t; weight = o.weight }) (place_code codes o.target (has 0 o (omega arith))) in
+    let here : outcome_in_model codes (outcome_of (move_to codes o)) ≡ o = ap (λ (t : ℕ). record { target = t; weight = o.weight }) (place_code codes o.target (has 0 o (omega arith))) in
     let rest = moves_back codes os (λ j d h. has (suc j) d (omega arith)) in
     cc
 
@@ -40,8 +40,8 @@ module _ (m : Model) (law : Lawful m) (codes : List ℕ) (from : Closed m codes)
   past_none : (c a : ℕ) → m.actions ≤ a → m.outcomes c a ≡ []
   past_none c a h =
       ⊎_elim
-      (λ (t : m.offered c a ≡ true). absurd (omega (arith, (law.offers c a t).1)))
-      (λ (f : m.offered c a ≡ false). law.silent c a f)
+      (λ (t : m.offered c a ≡ true). absurd (omega (arith, (law.moves.offers c a t).1)))
+      (λ (f : m.offered c a ≡ false). law.moves.silent c a f)
       (cases_Bool (m.offered c a))
 
   -- the cell of an action in a listed state
@@ -61,8 +61,8 @@ module _ (m : Model) (law : Lawful m) (codes : List ℕ) (from : Closed m codes)
   cell_offers : (c a : ℕ) → not (none (cell_of m codes c a)) ≡ m.offered c a
   cell_offers c a =
       ⊎_elim
-      (λ (t : m.offered c a ≡ true). some_cell codes (m.outcomes c a) (law.some c a t) ∙ sym t)
-      (λ (f : m.offered c a ≡ false). ap (λ os. not (none (map (move_to codes) os))) (law.silent c a f) ∙ sym f)
+      (λ (t : m.offered c a ≡ true). some_cell codes (m.outcomes c a) (law.moves.some c a t) ∙ sym t)
+      (λ (f : m.offered c a ≡ false). ap (λ os. not (none (map (move_to codes) os))) (law.moves.silent c a f) ∙ sym f)
       (cases_Bool (m.offered c a))
 
   pub book_copies : Copies m codes (book_of m codes)
@@ -73,8 +73,8 @@ module _ (m : Model) (law : Lawful m) (codes : List ℕ) (from : Closed m codes)
     actions = refl;
     start = from.first;
     masks = λ i h. ap (λ (k : Mark). k.mask) (mark_copied i h);
-    rewards = λ i h. ap (λ (k : Mark). pos k.worth.raised -ℤ pos 2000) (mark_copied i h) ∙ reward_back (m.reward (get_or codes i 0)) (omega (arith, law.bounded (get_or codes i 0), law.modest));
+    rewards = λ i h. ap (λ (k : Mark). pos k.worth.raised -ℤ pos 2000) (mark_copied i h) ∙ reward_back (m.reward (get_or codes i 0)) (omega (arith, law.shows.bounded (get_or codes i 0), law.shows.modest));
     origins = λ i h. ap (λ (k : Mark). k.worth.origin) (mark_copied i h);
     offers = λ i a h. ap (λ (c : List Move). not (none c)) (book_cell i a h) ∙ cell_offers (get_or codes i 0) a;
-    moves = λ i a h. ap (λ c. map (meant codes) (map outcome_of c)) (book_cell i a h) ∙ moves_back codes (m.outcomes (get_or codes i 0) a) (λ j d l. from.targets (get_or codes i 0) a j d (has_get_or codes i 0 h) l);
+    moves = λ i a h. ap (λ c. map (outcome_in_model codes) (map outcome_of c)) (book_cell i a h) ∙ moves_back codes (m.outcomes (get_or codes i 0) a) (λ j d l. from.targets (get_or codes i 0) a j d (Contains-get_or codes i 0 h) l);
   }

@@ -5,4 +5,6 @@ pub mod Copying
 pub mod Carrying
 pub mod Back
 pub mod Wording
+pub mod Origins
+pub mod Outcomes
 pub mod Booking

@@ -1,6 +1,6 @@
 -- The words of a book's parts, one part after another, and how many they are.
 use Rattle.std.proofs.Common.{◌≡◌, ℕ, zero, suc, ◌+◌, ◌*◌, ◌/◌, ◌%◌, ◌^◌, ◌<◌, ◌≤◌, List, [], ◌∷◌, ◌++◌, map, length, sym, refl, ap, ◌∙◌, append_assoc, append-nil, arith}
-use Rattle.std.proofs.lemmas.List.{length-append, length-map, length_push}
+use Rattle.std.proofs.lemmas.List.{length-append, length-map}
 use Rattle.model.specs.Models.{Model, Lawful}
 use Rattle.sitelayout.specs.declared.Move.{Move}
 use Rattle.sitelayout.specs.Layout.{mark_words, move_words, cell_word, cell_words, site_words}
@@ -8,15 +8,12 @@ use Rattle.sitelayout.specs.OneWord.{word_of_entry}
 use Rattle.sitelayout.proofs.Account.{cells-append}
 use Rattle.sitelayout.proofs.Way.{length-marks, length-moves}
 use Rattle.writeout.specs.Book.{mark_of, move_to, cell_of, cells_below, cells_of, book_of}
+use Rattle.writeout.proofs.Cells.{length-below, length-cells}
 
 -- an action that is offered
 pub cell_said : (actions k : ℕ) (ms : List Move) → 0 < length ms → cell_word actions k ms ≡ word_of_entry (k / actions) (k % actions) (length ms) ∷ move_words ms
 cell_said actions k [] l = absurd (omega arith)
 cell_said actions k (m ∷ ms) l = refl
-
-pub below_length : (m : Model) (codes : List ℕ) (c n : ℕ) → length (cells_below m codes c n) ≡ n
-below_length m codes c zero = refl
-below_length m codes c (suc n) = omega (arith, length_push (cells_below m codes c n) (cell_of m codes c n), below_length m codes c n)
 
 -- one action more in the state at a place
 pub below_more : (m : Model) (codes : List ℕ) (c place a : ℕ) → cell_words m.actions (place * m.actions) (cells_below m codes c (a + 1)) ≡ cell_words m.actions (place * m.actions) (cells_below m codes c a) ++ cell_word m.actions (place * m.actions + a) (cell_of m codes c a)
@@ -24,21 +21,17 @@ below_more m codes c place a =
     let one : a + 1 ≡ suc a = omega arith in
     ap (λ n. cell_words m.actions (place * m.actions) (cells_below m codes c n)) one
     ∙ cells-append m.actions (place * m.actions) (cells_below m codes c a) (cell_of m codes c a ∷ [])
-    ∙ ap (λ n. cell_words m.actions (place * m.actions) (cells_below m codes c a) ++ (cell_word m.actions (place * m.actions + n) (cell_of m codes c a) ++ [])) (below_length m codes c a)
+    ∙ ap (λ n. cell_words m.actions (place * m.actions) (cells_below m codes c a) ++ (cell_word m.actions (place * m.actions + n) (cell_of m codes c a) ++ [])) (length-below m codes c a)
     ∙ ap (λ l. cell_words m.actions (place * m.actions) (cells_below m codes c a) ++ l) (append-nil (cell_word m.actions (place * m.actions + a) (cell_of m codes c a)))
 
 cells-push : (m : Model) (codes xs : List ℕ) (c : ℕ) → cells_of m codes (xs ++ (c ∷ [])) ≡ cells_of m codes xs ++ cells_below m codes c m.actions
 cells-push m codes [] c = append-nil (cells_below m codes c m.actions)
 cells-push m codes (x ∷ xs) c = ap (λ l. cells_below m codes x m.actions ++ l) (cells-push m codes xs c) ∙ sym (append_assoc (cells_below m codes x m.actions) (cells_of m codes xs) (cells_below m codes c m.actions))
 
-cells-length : (m : Model) (codes xs : List ℕ) → length (cells_of m codes xs) ≡ length xs * m.actions
-cells-length m codes [] = omega arith
-cells-length m codes (c ∷ cs) = omega (arith, length-append (cells_below m codes c m.actions) (cells_of m codes cs), below_length m codes c m.actions, cells-length m codes cs)
-
 -- one state more
 pub states_more : (m : Model) (codes xs : List ℕ) (c n : ℕ) → length xs ≡ n → cell_words m.actions 0 (cells_of m codes (xs ++ (c ∷ []))) ≡ cell_words m.actions 0 (cells_of m codes xs) ++ cell_words m.actions (n * m.actions) (cells_below m codes c m.actions)
 states_more m codes xs c n e =
-    let at : 0 + length (cells_of m codes xs) ≡ n * m.actions = omega (arith, cells-length m codes xs, ap (λ k. k * m.actions) e) in
+    let at : 0 + length (cells_of m codes xs) ≡ n * m.actions = omega (arith, length-cells m codes xs, ap (λ k. k * m.actions) e) in
     ap (cell_words m.actions 0) (cells-push m codes xs c)
     ∙ cells-append m.actions 0 (cells_of m codes xs) (cells_below m codes c m.actions)
     ∙ ap (λ k. cell_words m.actions 0 (cells_of m codes xs) ++ cell_words m.actions k (cells_below m codes c m.actions)) at
@@ -58,7 +51,7 @@ below_small m law codes c k (suc n) =
       ap length (append-nil (cell_word m.actions (k + length (cells_below m codes c n)) (cell_of m codes c n))),
       cell-length m.actions (k + length (cells_below m codes c n)) (cell_of m codes c n),
       length-map (m.outcomes c n) (move_to codes),
-      law.few c n,
+      law.moves.few c n,
       below_small m law codes c k n,
     )
 
@@ -70,7 +63,7 @@ states_small m law codes (c ∷ cs) k =
       ap length (cells-append m.actions k (cells_below m codes c m.actions) (cells_of m codes cs)),
       length-append (cell_words m.actions k (cells_below m codes c m.actions)) (cell_words m.actions (k + length (cells_below m codes c m.actions)) (cells_of m codes cs)),
       below_small m law codes c k m.actions,
-      law.acts,
+      law.moves.acts,
       states_small m law codes cs (k + length (cells_below m codes c m.actions)),
     )
 

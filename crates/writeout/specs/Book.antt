@@ -1,5 +1,5 @@
--- The site book that is written out of listed states: their masks, rewards and moves, with the ground as origin. A state of the book
--- is the place of a listed state.
+-- The site book that is written out of listed states: their masks, rewards and moves, with the
+-- ground as origin. A state of the book is the place of a listed state.
 use Rattle.std.specs.Prelude.{ℕ, zero, suc, ◌+◌, ◌*◌, List, [], ◌∷◌, ◌++◌, length, map, pos, ◌+ℤ◌, nat_eq, unsigned_abs}
 use Rattle.model.specs.declared.Outcome.{Outcome}
 use Rattle.model.specs.Models.{Model}
@@ -12,7 +12,10 @@ use Rattle.sitelayout.specs.Site.{Site}
 
 -- what is written of a state; the reward is raised by 2,000
 abbrev pub mark_of : Model → ℕ → Mark
-mark_of m c = record { mask = m.mask c; worth = record { raised = unsigned_abs (m.reward c +ℤ pos 2000); origin = m.site c } }
+mark_of m c = record {
+  mask = m.mask c;
+  worth = record { raised = unsigned_abs (m.reward c +ℤ pos 2000); origin = m.site c };
+}
 
 -- an outcome leads to the place of its target
 abbrev pub move_to : List ℕ → Outcome → Move
@@ -33,7 +36,12 @@ cells_of m codes [] = []
 cells_of m codes (c ∷ cs) = cells_below m codes c m.actions ++ cells_of m codes cs
 
 abbrev pub book_of : Model → List ℕ → Site
-book_of m codes = record { labels = m.labels; actions = m.actions; marks = map (mark_of m) codes; cells = cells_of m codes codes }
+book_of m codes = record {
+  labels = m.labels;
+  actions = m.actions;
+  marks = map (mark_of m) codes;
+  cells = cells_of m codes codes;
+}
 
 -- its words: the head
 abbrev pub head_words : Model → List ℕ → List ℕ

@@ -2,14 +2,12 @@
 
 #![tactic(auto)]
 
-mod cellwords;
 mod listing;
-mod markwords;
 mod out;
 
 pub use out::write_out;
 
-// The numbers of states and of words of a book that was written out.
+/// How large a book is that was written out: its states, and its words with head and end.
 #[derive(Clone, Copy, Debug, PartialEq, Eq)]
 pub struct Written {
     pub states: usize,

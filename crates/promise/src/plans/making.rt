@@ -11,7 +11,7 @@ ghost use Rattle.sitebook.specs.Contents.{contents};
 ghost use Rattle.sitelayout.specs.Layout.{site_format, site_words};
 ghost use Rattle.sitelayout.specs.Site.{Site};
 ghost use Rattle.words.specs.Format.{file, got, reading};
-ghost use Rattle.writeout.specs.Tables.{Faithfully, left, out_book, outcome};
+ghost use Rattle.writeout.specs.Tables.{out_book, outcome, Represents, table_after};
 
 use crate::causes::Unplanned;
 use crate::plans::{Plan, Tables};
@@ -101,13 +101,13 @@ fn prepare<P: Pile>(
     ensures answer { ReadyAs (P.SiteModel.meaning pile.now) horizon (length codes.old)
         (length bytes.old) worths choices result }
     ensures room { IfOk result (λ r. r.choices.items ≡ replicate (horizon * r.written.states) 0) }
-    ensures codes { codes.new ≡ left
+    ensures codes { codes.new ≡ table_after
         (outcome (P.SiteModel.meaning pile.now) (length codes.old) (length bytes.old))
         (length codes.old) (codes_of (P.SiteModel.meaning pile.now)) }
-    ensures bytes { bytes.new ≡ left
+    ensures bytes { bytes.new ≡ table_after
         (outcome (P.SiteModel.meaning pile.now) (length codes.old) (length bytes.old))
         (length bytes.old) (file (site_words (out_book (P.SiteModel.meaning pile.now)))) }
-    ensures faithful { Faithfully (P.SiteModel.meaning pile.now) }
+    ensures faithful { Represents (P.SiteModel.meaning pile.now) }
     ensures corresponds { Corresponds (P.Pile.base pile.now) (P.Pile.floors pile.now)
         (P.SiteModel.meaning pile.now) }
 {
@@ -144,7 +144,7 @@ pub fn plan_pile<P: Pile, W: Weighing>(
     ensures free { OnOk result
         (NothingHeld (W.meaning weighing.now) (book_model (P.SiteModel.meaning pile.now)) horizon
         tables.new.worths.now) }
-    ensures faithful { Faithfully (P.SiteModel.meaning pile.now) }
+    ensures faithful { Represents (P.SiteModel.meaning pile.now) }
     ensures corresponds { Corresponds (P.Pile.base pile.now) (P.Pile.floors pile.now)
         (P.SiteModel.meaning pile.now) }
     ensures best { BestInBook (P.Pile.base pile.now) (P.Pile.floors pile.now)

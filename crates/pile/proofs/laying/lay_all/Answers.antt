@@ -1,6 +1,6 @@
 use Rattle.std.proofs.Common.{◌≤◌, [], ◌∷◌, length, sym, ap, ◌∙◌, rules}
 use Rattle.std.specs.Option.{option_copied}
-use Rattle.layer.specs.Laying.{meaning_of}
+use Rattle.layer.specs.InMemory.{meaning_of}
 use Rattle.pile.proofs.Stacking.{item_copied, Stands, none_yet, one_more, refused_at, refused_first, few_books, all_laid, whole}
 use Rattle.pile.proofs.laying.lay_all.Given.{Over}
 use Rattle.pile.proofs.laying.lay_all.Goals as goal

@@ -2,7 +2,7 @@ use Rattle.std.proofs.Common.{Some, true, false, ◌≡◌, ◌<◌, ◌++◌, [
 use Rattle.std.proofs.lemmas.Bool.{both_ways}
 use Rattle.std.proofs.lemmas.List.{append-nil, length_push}
 use Rattle.wishbook.specs.Contents.{contents}
-use Rattle.layer.specs.Layering.{over}
+use Rattle.layer.specs.Layered.{over}
 use Rattle.pile.proofs.Turns.{judged_refused, judged_laid, no_refusal}
 use Rattle.pile.specs.Skipping.{JudgedSoFar}
 use Rattle.pile.proofs.skipping.first_laid.Goals as goal

@@ -1,5 +1,5 @@
 use Rattle.std.proofs.Common.{◌≡◌, [], ◌∷◌, ap, ◌∙◌, subst}
-use Rattle.layer.specs.Laying.{meaning_of}
+use Rattle.layer.specs.InMemory.{meaning_of}
 use Rattle.pile.proofs.Turns.{FourTurns, all_judged, on}
 use Rattle.pile.specs.Skipping.{Judges, present}
 use Rattle.pile.proofs.skipping.lay_each.Goals as goal

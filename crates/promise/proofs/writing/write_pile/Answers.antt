@@ -9,6 +9,6 @@ returns g c =
       answer = told.answer;
       codes = told.codes;
       bytes = told.bytes;
-      faithful = told.faithful;
-      corresponds = corresponds (g.P.Pile.base c.args.pile.now) law.lawfully law.grounded (g.P.Pile.floors c.args.pile.now) law.sound (g.P.SiteModel.meaning c.args.pile.now) law.stands told.faithful;
+      faithful = told.represents;
+      corresponds = corresponds (g.P.Pile.base c.args.pile.now) law.lawfully law.grounded (g.P.Pile.floors c.args.pile.now) law.sound (g.P.SiteModel.meaning c.args.pile.now) law.stands told.represents;
     }

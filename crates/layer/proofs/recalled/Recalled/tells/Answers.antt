@@ -2,7 +2,7 @@ use Rattle.std.proofs.Common.{ap, ◌∙◌, div-one, rules, tests}
 use Rattle.std.proofs.lemmas.Iterator.{YieldsList-from_slice}
 use Rattle.std.proofs.lemmas.Iterator.Consumers.{YieldsList-from_enumerate}
 use Rattle.std.proofs.lemmas.Iterator.Search.{any_from_yields_List}
-use Rattle.layer.specs.Judging.{recalled}
+use Rattle.layer.specs.Verdicts.{recalled}
 use Rattle.layer.proofs.Recalling.{set_there, recalled_by_place}
 use Rattle.layer.proofs.recalled.Recalled.tells.Goals as goal
 

@@ -5,21 +5,28 @@ use Rattle.weighing.specs.Holding.{within_fits64}
 use Rattle.weighing.specs.Weighings.{held}
 use Rattle.worth.specs.Worths.{own_part, summed, action_of}
 use Rattle.planning.specs.Plans.{worth_at, choice_at}
-use Rattle.planning.proofs.Entries.{picked_within, picked_small, last_worth, entry_there}
+use Rattle.planning.proofs.Entries.{picked_within, picked_small, last_worth, first_row, entry_there}
 use Rattle.planning.proofs.planner.Planner.entry.Goals as goal
 
-pub returns-then-left-eq0-clause-worth : goal.returns-then-left-eq0-clause-worth
-returns-then-left-eq0-clause-worth g c =
+-- with no slot left the own part is all, and no choice stands a row before
+pub returns-then-left-eq0-clause-entry : goal.returns-then-left-eq0-clause-entry
+returns-then-left-eq0-clause-entry g c =
     let m = g.M.SiteModel.meaning c.args.self.now.model.now in
     let w = g.W.Weighing.meaning c.args.self.now.weighing.now in
+    let law = g.met.M.SiteModel.lawful c.args.self.now.model.now in
     let p = c.args.place in
     let h = c.args.self.now.horizon in
     let own = c.own-own.result in
     let states = c.count-states.ensures.count in
-    to_z-of_z w64 own (within_fits64 own c.own-own.ensures.held)
-    ∙ c.own-own.ensures.part
-    ∙ (λ i. own_part w discount_of h (p / states i) (m.reward (p % states i)))
-    ∙ sym (last_worth w m (g.met.M.SiteModel.lawful c.args.self.now.model.now) (g.met.M.Numbered.numbered c.args.self.now.model.now) h p (sym (ap (λ n. p / n) states) ∙ c.if-left-eq0.true))
+    let none : p / m.span ≡ 0 = sym (ap (λ n. p / n) states) ∙ c.if-left-eq0.true in
+    record {
+      worth =
+          to_z-of_z w64 own (within_fits64 own c.own-own.ensures.held)
+          ∙ c.own-own.ensures.part
+          ∙ (λ i. own_part w discount_of h (p / states i) (m.reward (p % states i)))
+          ∙ sym (last_worth w m law (g.met.M.Numbered.numbered c.args.self.now.model.now) h p none);
+      choice = λ row. absurd (first_row w m law (g.met.M.Numbered.numbered c.args.self.now.model.now) h p none row);
+    }
 
 pub after-requires-clause-best : goal.after-requires-clause-best
 after-requires-clause-best g c =
@@ -44,11 +51,11 @@ there g c =
     (same ∙ c.own-own.ensures.part)
     c.best.ensures
 
-pub returns-clause-worth : goal.returns-clause-worth
-returns-clause-worth g c = c.after.ensures.value ∙ (there g c).0
-
-pub returns-clause-choice : goal.returns-clause-choice
-returns-clause-choice g c = λ l. c.after.ensures.action ∙ (there g c).1
+pub returns-clause-entry : goal.returns-clause-entry
+returns-clause-entry g c = record {
+  worth = c.after.ensures.value ∙ (there g c).0;
+  choice = λ row. c.after.ensures.action ∙ (there g c).1;
+}
 
 pub returns-clause-small : goal.returns-clause-small
 returns-clause-small g c =

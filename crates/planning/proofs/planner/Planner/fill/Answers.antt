@@ -20,7 +20,7 @@ loop-place-preserved g c =
     let all : (h + 1) * m.span ≡ h * m.span + m.span = ap (λ k. k * m.span) (add-one h) ∙ suc-mul h m.span in
     let room : p < length c.loop-place.worths = omega (arith, rows, all) in
     record {
-      worths = filled_more (worth_at w m h) p c.args.worths.now c.loop-place.worths (to_z w64 (of_z w64 c.entry-entry.result.value)) inv.worths room (value ∙ told.worth);
+      worths = filled_more (worth_at w m h) p c.args.worths.now c.loop-place.worths (to_z w64 (of_z w64 c.entry-entry.result.value)) inv.worths room (value ∙ told.entry.worth);
       choices =
           elim c.if-place-states.branch [
             | then-place-states u ↦
@@ -30,7 +30,7 @@ loop-place-preserved g c =
                 let next : p - m.span + 1 ≡ p + 1 - m.span = omega arith in
                 subst (Filled f (p + 1 - m.span) xs) (ap (λ n. set c.loop-place.choices n c.entry-entry.result.action) place ∙ sym u.choices-is)
                 (subst (λ n. Filled f n xs (set c.loop-place.choices (p - m.span) c.entry-entry.result.action)) next
-                (filled_more f (p - m.span) xs c.loop-place.choices c.entry-entry.result.action inv.choices inside (told.choice past))))
+                (filled_more f (p - m.span) xs c.loop-place.choices c.entry-entry.result.action inv.choices inside (told.entry.choice past))))
             | else-place-states u ↦
                 (let none : p - m.span ≡ p + 1 - m.span = omega arith in
                 subst (Filled f (p + 1 - m.span) xs) (sym u.choices-is) (subst (λ n. Filled f n xs c.loop-place.choices) none inv.choices))

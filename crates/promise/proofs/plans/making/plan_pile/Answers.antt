@@ -11,7 +11,7 @@ use Rattle.promise.specs.Corresponding.{book_model, place_in}
 use Rattle.promise.specs.Planning.{PlansAs}
 use Rattle.promise.proofs.Earning.{best_of_pile, best_in_book}
 use Rattle.promise.proofs.Preparing.{states_are, told_error}
-use Rattle.promise.proofs.Rereading.{wrote}
+use Rattle.writeout.proofs.Outcomes.{wrote}
 use Rattle.promise.proofs.Whole.{front_length, holds_front, sizes_fit, unplanned_as, whole_plan, worth_told}
 use Rattle.promise.proofs.plans.making.plan_pile.Goals as goal
 

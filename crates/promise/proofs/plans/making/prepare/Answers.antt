@@ -10,7 +10,8 @@ use Rattle.promise.specs.Corresponding.{book_model}
 use Rattle.promise.specs.Planning.{ReadyAs, after_writing, unless_unready}
 use Rattle.promise.specs.declared.causes.Unplanned.TheVariants.{Refused}
 use Rattle.promise.proofs.Preparing.{memory_as, states_are, tested, told_error}
-use Rattle.promise.proofs.Rereading.{rereads, wrote}
+use Rattle.promise.proofs.Rereading.{rereads}
+use Rattle.writeout.proofs.Outcomes.{wrote}
 use Rattle.promise.proofs.plans.making.prepare.Goals as goal
 
 pub returns-in_err-written-clause-answer : goal.returns-in_err-written-clause-answer

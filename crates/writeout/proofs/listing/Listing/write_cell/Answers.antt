@@ -24,8 +24,8 @@ returns-then-not-is_empty g c =
     ∙ ap (λ a. word_of_entry (k / m.actions) a (length cell) ∷ move_words cell) (sym (mod-mul-add c.args.place m.actions c.args.action c.requires))
     ∙ sym (cell_said m.actions k cell some) in
     let law = g.met.M.SiteModel.lawful c.args.self.now.model.now in
-    let few : c.len.result ≤ 8 = omega (arith, size, length-map (m.outcomes c.args.code c.args.action) (move_to codes), law.few c.args.code c.args.action) in
-    let entry : c.word.result ≡ word_of_entry c.args.place c.args.action c.len.result = omega (arith, c.word.ensures, c.ranges.place.fits, c.requires, law.acts.1, few) in
+    let few : c.len.result ≤ 8 = omega (arith, size, length-map (m.outcomes c.args.code c.args.action) (move_to codes), law.moves.few c.args.code c.args.action) in
+    let entry : c.word.result ≡ word_of_entry c.args.place c.args.action c.len.result = omega (arith, c.word.ensures, c.ranges.place.fits, c.requires, law.moves.acts.1, few) in
     let head : Adds (word_of_entry c.args.place c.args.action c.len.result ∷ []) c.args.pen.now c.put.new.self =
     subst (λ w. Adds (w ∷ []) c.args.pen.now c.put.new.self) entry c.put.ensures in
     let moves : Adds (move_words cell) c.put.new.self c.write_moves.new.pen =

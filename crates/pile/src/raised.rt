@@ -1,0 +1,11 @@
+// A wish layer on a pile is a pile with one floor more.
+ghost use Rattle.pile.specs.Pushing.{laid_push, raised};
+
+use crate::footing::Pile;
+use layer::Layer;
+
+impl<P: Pile> Pile for Layer<P> {
+    ghost piling = { λ l. raised (P.Pile.piling l.below) (P.SiteModel.meaning l.below) l.book };
+
+    ghost laid = { λ l. laid_push (P.SiteModel.meaning l.below) (P.Pile.piling l.below) l.book (P.Pile.laid l.below) };
+}
