@@ -7,6 +7,7 @@ mod answers;
 use rulebook::RuleBook;
 use sitebook::SiteBook;
 
+/// A book of either kind. Every answer is that of the book.
 #[derive(Drop)]
 pub enum GroundBook {
     Site(SiteBook),

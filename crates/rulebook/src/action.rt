@@ -3,7 +3,7 @@
 use bounded::Bounded;
 use rulelayout::Effect;
 
-// Offered where the switches of `on` are on and those of `off` are off.
+/// Offered where the switches of `on` are on and those of `off` are off.
 #[derive(Clone, Copy, Default)]
 pub struct Action {
     pub on: u16,

@@ -4,7 +4,6 @@
 
 mod action;
 mod book;
-mod ground;
 mod read;
 mod stage;
 

@@ -1,13 +1,11 @@
 // Reading a rule book: one word after another, into a table of at most eight actions of at most eight outcomes.
-ghost use Rattle.std.specs.Prelude.{◌≡◌, ◌<◌, IsTrue, ◌&&◌, [], ◌∷◌, ◌++◌, length, ◌==◌};
-ghost use Rattle.bounded.specs.Listed.{listed};
+ghost use Rattle.std.specs.Prelude.{◌≡◌, IsTrue, ◌&&◌, ◌==◌};
 ghost use Rattle.words.specs.Format.{Faithful, reading};
 ghost use Rattle.words.specs.Refusing.{RefusesRightly};
 ghost use Rattle.rulelayout.specs.Rule.{Rule, valid};
-ghost use Rattle.rulelayout.specs.Layout.{Draft as Words, listed as acts_read, rule_format, rule_words, read_word, whole_rule, filled, Good, good-prop, written};
+ghost use Rattle.rulelayout.specs.Layout.{Draft as Words, rule_format, rule_words, read_word, whole_rule, Good, good-prop, written};
 ghost use Rattle.rulelayout.specs.WordTests.{may_end, passes, closes};
-ghost use Rattle.rulebook.specs.Acts.{act_from};
-ghost use Rattle.rulebook.specs.Drafts.{list_from, draft_from, step_from, turn_from};
+ghost use Rattle.rulebook.specs.Drafts.{draft_from, turn_from};
 ghost use Rattle.rulebook.specs.Contents.{contents, verdict_from};
 
 use crate::action::Action;
@@ -15,48 +13,8 @@ use crate::book::RuleBook;
 use crate::stage::{Open, Stage, Table};
 use bounded::Bounded;
 use refusal::{Fault, Refusal};
-use rulelayout::{Effect, Kind, read_head, read_masks, total_weight};
+use rulelayout::{Kind, read_head, read_masks};
 use words::{Draft, Turn, open, read};
-
-impl Table {
-    // What is due after one action more. While an action is due there is room for it.
-    fn with(mut self, action: Action) -> Stage
-        ensures { length (list_from self) < 8
-            → draft_from result ≡ acts_read self.head (list_from self ++ act_from action ∷ []) }
-    {
-        let _ = self.acts.push(action);
-        if self.acts.len() < self.head.actions as usize {
-            Stage::Listing(self)
-        } else {
-            Stage::Whole(self)
-        }
-    }
-}
-
-impl Open {
-    // What is due after one outcome more. While an outcome is due there is room for it, and for its action.
-    fn with(mut self, effect: Effect) -> Result<Stage, Refusal>
-        ensures { let acts = list_from self.table in
-            let effects = listed self.effects in
-            length acts < 8 → length effects < 8
-            → step_from result ≡ filled self.table.head acts self.action (effects ++ effect ∷ []) }
-    {
-        let _ = self.effects.push(effect);
-        if self.effects.len() < self.action.count as usize {
-            return Ok(Stage::Inside(self));
-        }
-        if total_weight(&self.effects) != Some(8) {
-            return Err(Refusal::WrongTotal);
-        }
-        Ok(
-            self.table.with(Action {
-                on: self.action.first,
-                off: self.action.second,
-                effects: self.effects,
-            }),
-        )
-    }
-}
 
 // Whether an action is offered everywhere.
 fn needless(action: &Action) -> bool
@@ -153,7 +111,8 @@ impl Draft for Reading {
     }
 }
 
-// The rule book in a file's bytes, or the first refusal and the place of its word.
+/// The rule book in a file's bytes, or the first refusal and the place of the word that it is about, in words from 0 (docs/REFUSALS.md,
+/// "Reading"). The words are those of docs/FORMATS.md.
 #[tactic(auto, using(rulelayout::proofs::Faithful::rule_faithful, rulelayout::proofs::Refusing::rule_refuses))]
 pub fn read_rule(bytes: &[u8]) -> Result<RuleBook, Fault>
     ensures reads { reading rule_format bytes.now ≡ verdict_from result }

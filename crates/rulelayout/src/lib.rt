@@ -10,7 +10,7 @@ ghost use Rattle.rulelayout.specs.Layout.{head_of, masks_of, effect_of};
 use refusal::Refusal;
 use words::{field, fits, open};
 
-// The kinds of a rule book's words.
+/// The kinds of a rule book's words (docs/FORMATS.md).
 #[derive(Clone, Copy, Debug, PartialEq, Eq)]
 pub enum Kind {
     Head = 6,
@@ -19,7 +19,7 @@ pub enum Kind {
     End = 15,
 }
 
-// One outcome of an action: the switches that it sets and clears, and its weight in eighths.
+/// One outcome of an action: the switches that it sets and clears, bit k for switch k, and its weight, a chance in eighths.
 #[derive(Clone, Copy, Debug, Default, PartialEq, Eq)]
 pub struct Effect {
     pub set: u16,
@@ -27,7 +27,7 @@ pub struct Effect {
     pub weight: u8,
 }
 
-// The first word of a book: how many switches and actions it has, and the switches that are on at the start.
+/// The first word of a book: how many switches and actions it has, 1 to 10 and 1 to 8, and the switches that are on at the start.
 #[derive(Clone, Copy, Debug, PartialEq, Eq)]
 pub struct RuleHead {
     pub switches: u8,
@@ -35,8 +35,8 @@ pub struct RuleHead {
     pub start: u16,
 }
 
-// A word with two masks of switches: of an action, what must be on and what off, and the number of outcomes; of an outcome,
-// what it sets and clears, and the weight.
+/// A word with two masks of switches: of an action, what must be on and what off, and the number of outcomes; of an outcome,
+/// what it sets and clears, and the weight.
 #[derive(Clone, Copy, Debug, PartialEq, Eq)]
 pub struct Masks {
     pub first: u16,
@@ -57,7 +57,7 @@ impl From<Masks> for Effect {
     }
 }
 
-// The head of a book, or what is wrong with its word.
+/// The head of a book, or what is wrong with its word: WrongKind, UnusedBit or OutOfRange, tested in this order (docs/REFUSALS.md).
 pub fn read_head(word: u32) -> Result<RuleHead, Refusal>
     ensures { result ≡ head_of word }
 {
@@ -75,8 +75,9 @@ pub fn read_head(word: u32) -> Result<RuleHead, Refusal>
     })
 }
 
-// The fields of an action's word or of an outcome's, as its kind says, in a book with so many switches; or what is wrong with
-// it. It answers for every number as the kind: an enum in its place would ask more of callers.
+/// The fields of an action's word or of an outcome's, as its kind says, in a book with so many switches; or what is wrong with it:
+/// WrongKind, UnusedBit, OutOfRange or SwitchTwice, tested in this order.
+// It answers for every number as the kind: an enum in its place would ask more of callers.
 pub fn read_masks(kind: u32, switches: u32, word: u32) -> Result<Masks, Refusal>
     ensures { result ≡ masks_of kind switches word }
 {
@@ -97,8 +98,8 @@ pub fn read_masks(kind: u32, switches: u32, word: u32) -> Result<Masks, Refusal>
     })
 }
 
-// The weights of at most eight outcomes together; there is no answer for more. It takes any slice: a list of at most eight in its
-// place would ask more of callers.
+/// The weights of at most eight outcomes together, in eighths; there is no answer for more.
+// It takes any slice: a list of at most eight in its place would ask more of callers.
 pub fn total_weight(effects: &[Effect]) -> Option<u32>
     ensures { MatchOption result (8 < length effects.now)
         (λ sum. (length effects.now ≤ 8) × (sum ≡ total effects.now)) }

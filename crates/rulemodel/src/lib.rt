@@ -12,7 +12,7 @@ ghost use Rattle.rulemodel.specs.Meaning.{added, landing, Lands, Gathered, outco
 use model::{Outcome, Outcomes};
 use rulelayout::{Effect, total_weight};
 
-// Where an outcome lands: its switches to clear go off, then its switches to set go on.
+/// The state where an outcome lands, a mask with bit k for switch k: its switches to clear go off, then its switches to set go on.
 #[tactic(auto, using(crate::proofs::Switches::lands, crate::proofs::Switches::cleared))]
 pub fn land(s: u64, effect: Effect) -> u64
     ensures landing { result ≡ landing s effect }
@@ -22,7 +22,7 @@ pub fn land(s: u64, effect: Effect) -> u64
     (s & !clear) | effect.set as u64
 }
 
-// Whether all switches of `on` are on and all of `off` are off.
+/// Whether in the state s all switches of the mask `on` are on and all of `off` are off.
 pub fn needs_met(s: u64, on: u16, off: u16) -> bool
     ensures met { result ≡ met_by s on off }
     ensures switches { Meets s on off result }
@@ -58,9 +58,9 @@ fn with_landing(mut ways: Outcomes, target: u64, weight: u8) -> Outcomes
     ways
 }
 
-// The outcomes in a state of an action with these effects: those that land alike are one, at the first one's place, with their
-// weights added. More than eight effects, or more than eight eighths, are no action's and have no outcomes. It takes any slice: a
-// list of at most eight in its place would ask more of callers.
+/// The outcomes in a state of an action with these effects: those that land alike are one, at the first one's place, with their
+/// weights added. More than eight effects, or more than eight eighths, are no action's and have no outcomes.
+// It takes any slice: a list of at most eight in its place would ask more of callers.
 pub fn outcomes_of(s: u64, effects: &[Effect]) -> Outcomes
     ensures outcomes { listed result ≡ outcomes_from s effects.now }
     ensures gathered { length effects.now ≤ 8 → total effects.now ≤ 8

@@ -4,6 +4,7 @@ ghost use Rattle.sitelayout.specs.Kinds.{kind_of};
 
 use refusal::Refusal;
 
+/// The kind of a word, by its number. An entry has a word, and each of its outcomes one.
 #[derive(Clone, Copy, Debug, PartialEq, Eq)]
 pub enum Kind {
     Head = 1,
@@ -14,7 +15,7 @@ pub enum Kind {
     End = 15,
 }
 
-// The kind of a word.
+// The kind of a word, or WrongKind where its number is that of none.
 impl TryFrom<u32> for Kind {
     type Error = Refusal;
 

@@ -9,7 +9,8 @@ ghost use Rattle.sitemodel.specs.Meaning.{outcome_of};
 use model::{Outcome, Outcomes};
 use sitelayout::Move;
 
-// The outcomes that a book says, in order: the first eight, and no action has more. A loop of `push`: see crate bounded.
+/// The outcomes of an action, as a model gives them: the first eight, and in a valid book no action has more.
+// A loop of `push`: see crate bounded.
 pub fn outcomes_of(moves: &[Move]) -> Outcomes
     ensures { listed result ≡ take 8 (map outcome_of moves.now) }
 {

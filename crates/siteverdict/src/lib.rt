@@ -15,7 +15,7 @@ mod steps;
 
 use state::State;
 
-// How large a book is, how many outcomes it has in all (promised, though storing no longer asks), and the largest size of a reward in it.
+/// How large a book is, how many outcomes it has in all, and its bound: the largest size of a reward in it, at most 2,000.
 #[derive(Clone, Copy, Debug, PartialEq, Eq)]
 pub struct Counts {
     pub head: Head,
@@ -23,7 +23,8 @@ pub struct Counts {
     pub bound: u32,
 }
 
-// The counts of the book, or the first refusal and its place.
+/// The counts of the book that a file is, or the first refusal and the place of the word that it is about, in words from 0
+/// (docs/REFUSALS.md, "Reading"). It allocates nothing.
 pub fn verdict(bytes: &[u8]) -> Result<Counts, Fault>
     ensures { Judges result (reading site_format bytes.now) }
 {

@@ -1,4 +1,4 @@
-// Reading a wish book, and what a book holds.
+// Reading a wish book.
 ghost use Rattle.std.specs.Prelude.{◌≡◌, IfOk, IsTrue};
 ghost use Rattle.words.specs.Format.{Faithful};
 ghost use Rattle.words.specs.Refusing.{RefusesRightly};
@@ -10,12 +10,11 @@ ghost use Rattle.wishbook.specs.Contents.{Reads, contents};
 
 use crate::book::WishBook;
 use crate::gathered::Gathered;
-use formula::{Item, Node};
 use refusal::Fault;
-use wishlayout::Wish;
 use words::read;
 
-// The wish book in a file's bytes, or the first refusal and the place of its word.
+/// The wish book in a file's bytes, or the first refusal and the place of the word that it is about, in words from 0 (docs/REFUSALS.md,
+/// "Reading"). The words are those of docs/FORMATS.md.
 #[tactic(auto, using(crate::proofs::Whole::same_wishes, crate::proofs::Remembering::answer_keeps, wishlayout::proofs::Way::wish_faithful, wishlayout::proofs::Refusing::wish_refuses))]
 pub fn read_wish(bytes: &[u8]) -> Result<WishBook, Fault>
     ensures reads { Reads bytes.now result }
@@ -25,27 +24,4 @@ pub fn read_wish(bytes: &[u8]) -> Result<WishBook, Fault>
     ensures remembers { IfOk result (λ book. KeepsItems (contents book)) }
 {
     read::<Gathered>(bytes)
-}
-
-impl WishBook {
-    // The different nodes, by number.
-    pub fn nodes(&self) -> &[Node]
-        ensures { result.now ≡ (contents self.now).nodes }
-    {
-        self.nodes.as_slice()
-    }
-
-    // The wishes in order, each by the number of its node.
-    pub fn wishes(&self) -> &[Wish]
-        ensures { result.now ≡ (contents self.now).wishes }
-    {
-        self.wishes.as_slice()
-    }
-
-    // The memory items in order.
-    pub fn items(&self) -> &[Item]
-        ensures { result.now ≡ (contents self.now).items }
-    {
-        self.items.as_slice()
-    }
 }

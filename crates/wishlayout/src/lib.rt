@@ -11,10 +11,13 @@ use formula::Node;
 use refusal::Refusal;
 use words::{field, open};
 
-// The kinds of a wish word and of an end word. They are no kinds of node words: in the enum of those, the reader of a node would have to
+// The kinds of a wish word and of an end word are no kinds of node words: in the enum of those, the reader of a node would have to
 // answer for two more that it can only refuse.
+
+/// The kind of a wish word: its highest four bits (docs/FORMATS.md).
 pub const WISH: u32 = 10;
 
+/// The kind of an end word.
 pub const END: u32 = 15;
 
 // The kinds of node words, by their numbers.
@@ -31,7 +34,7 @@ enum NodeKind {
     True = 9,
 }
 
-// A wish: the number of a node, and its amount plus 255.
+/// A wish: the number of a node, and its amount plus 255, so 0 to 511 for -255 to 256.
 #[derive(Clone, Copy, Debug, PartialEq, Eq, Default)]
 pub struct Wish {
     pub node: u8,
@@ -39,7 +42,7 @@ pub struct Wish {
 }
 
 impl Wish {
-    // What the wish is worth in each slot in which it holds.
+    /// What the wish is worth in each slot in which it holds: -255 to 256 in a book that was read.
     pub fn amount(&self) -> i32
         ensures value { result ≡ amount_of self.now }
         ensures small { unsigned_abs result < 65536 }
@@ -94,7 +97,9 @@ fn operand(word: u32, low: u32, count: u32) -> Result<u8, Refusal>
     Ok(a as u8)
 }
 
-// A node word after `count` others. `open` tests its kind again, with the unused bits that the kind leaves.
+/// A node word after `count` others, or what is wrong with it: WrongKind, UnusedBit or OutOfRange, tested in this order
+/// (docs/REFUSALS.md).
+// `open` tests its kind again, with the unused bits that the kind leaves.
 pub fn read_node(word: u32, count: u32) -> Result<Node, Refusal>
     ensures { result ≡ node_of count word }
 {
@@ -113,7 +118,7 @@ pub fn read_node(word: u32, count: u32) -> Result<Node, Refusal>
     })
 }
 
-// A wish word after `count` node words.
+/// A wish word after `count` node words, or what is wrong with it, tested in the same order.
 pub fn read_wish_word(word: u32, count: u32) -> Result<Wish, Refusal>
     ensures { result ≡ wish_of count word }
 {

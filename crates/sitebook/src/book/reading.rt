@@ -18,7 +18,8 @@ use siteverdict::{Counts, verdict};
 use std::alloc::Global;
 use words::next_word;
 
-// The book that a file is, or the first refusal and its place; want of memory only where the file is a book.
+/// The book that a file is, or the first refusal and the place of the word that it is about, in words from 0 (docs/REFUSALS.md,
+/// "Reading"); want of memory only where the file is a book. The words are those of docs/FORMATS.md.
 #[tactic(auto, using(sitelayout::proofs::Way::site_faithful, sitelayout::proofs::Refusing::site_refuses))]
 pub fn read_site(heap: Global, bytes: &[u8]) -> Result<SiteBook, Unread>
     ensures reads { Reads bytes.now result }
