@@ -9,7 +9,7 @@ use Rattle.weighing.specs.Discounts.{discount_of}
 use Rattle.weighing.specs.Weighings.{Weigh}
 use Rattle.writeout.specs.Copies.{by_origin}
 use Rattle.writeout.specs.Tables.{Represents, Writable, out_book}
-use Rattle.outbook.specs.Lawful.{origin_lawful}
+use Rattle.writeout.proofs.Origins.{origin_lawful}
 use Rattle.worth.proofs.Optimal.{plan_best}
 use Rattle.promise.specs.Planning.{BestInBook, BestOn}
 use Rattle.promise.specs.Corresponding.{Corresponds, book_model, place_in}

@@ -1,5 +1,6 @@
 -- What is refused before anything is allocated, and that memory may be wanting only where nothing is. For others: `states_are`,
--- `after_written`, `refused_writing`, `told_error` and `memory_as`.
+-- `after_written`, `refused_writing`, `told_error`,
+-- `unplanned_as` and `memory_as`.
 use Rattle.std.proofs.Common.{◌≡◌, ℕ, Some, None, Option, Ok, Err, Result, sym, ap, ◌∙◌}
 use Rattle.std.specs.Option.{option_or}
 use Rattle.std.specs.Result.{IsErrAnd}
@@ -8,9 +9,11 @@ use Rattle.planning.specs.Plans.{sizes_refusal}
 use Rattle.planning.proofs.Accepting.{refused_by, unrefused}
 use Rattle.promise.specs.Causes.{OutOfMemory}
 use Rattle.promise.specs.Corresponding.{book_model}
-use Rattle.promise.specs.Planning.{ReadyAs, plan_refusal}
+use Rattle.promise.specs.Planning.{PlansAs, ReadyAs, plan_refusal}
 use Rattle.promise.specs.declared.causes.Unplanned.{Unplanned}
 use Rattle.promise.specs.declared.causes.Unplanned.TheVariants.{Refused, Memory}
+use Rattle.promise.specs.declared.plans.Tables.{Tables}
+use Rattle.weighing.specs.Weighings.{Weigh}
 use Rattle.writeout.proofs.Outcomes.{wrote}
 use Rattle.refusal.specs.declared.Refusal.{Refusal}
 use Rattle.writeout.specs.declared.Written.{Written}
@@ -39,6 +42,11 @@ module _ (m : Model) (h places space a b : ℕ) where
   pub memory_as : (why : Unplanned) → OutOfMemory why → plan_refusal m h places space a b ≡ None → ReadyAs m h places space a b (Err why)
   memory_as (Refused r) out is = absurd out
   memory_as (Memory e) out is = is
+
+-- what keeps a plan from being made ready keeps it from being made
+pub unplanned_as : (w : Weigh) (m : Model) (h : ℕ) (t : Tables) (why : Unplanned) → ReadyAs m h (length t.codes.now) (length t.bytes.now) (length t.worths.now) (length t.choices.now) (Err why) → PlansAs w m h t (Err why)
+unplanned_as w m h t (Refused r) is = is
+unplanned_as w m h t (Memory e) is = is
 
 -- an answer that is told to be this error
 pub told_error : {A : Type 0} (r : Result A Unplanned) (why : Unplanned) → IsErrAnd r (λ e. e ≡ why) → r ≡ Err why

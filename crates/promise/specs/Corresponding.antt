@@ -5,7 +5,7 @@ use Rattle.model.specs.Histories.{Unfolds, OnePathAbove}
 use Rattle.model.specs.Models.{Model}
 use Rattle.pile.specs.Piles.{piled, Piling, place_on, shown_on}
 use Rattle.reach.specs.Search.{codes_of}
-use Rattle.writeout.specs.Copies.{by_origin, placed}
+use Rattle.writeout.specs.Copies.{by_origin, place_in_book}
 use Rattle.writeout.specs.Tables.{Writable, out_book}
 
 -- the written-out book as a model
@@ -14,7 +14,7 @@ book_model m = by_origin (out_book m)
 
 -- the place of the book at which a history of the ground model stands
 abbrev pub place_in : Piling → List ℕ → ℕ
-place_in pile = placed (codes_of pile.model) (place_on pile).code
+place_in pile = place_in_book (codes_of pile.model) (place_on pile).code
 
 pub record Corresponds (pile : Piling) : Type 0 where
   pub stands : pile.model ≡ piled pile.base pile.floors

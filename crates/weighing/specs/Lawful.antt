@@ -21,7 +21,7 @@ held_twice x = held_same (held x) (held_within x)
 pub held_raises : (x y : ℤ) → x ≤ℤ y → held x ≤ℤ held y
 held_raises x y h = omega (arith, ints, clamps)
 
-add_raises : (x y u v : ℤ) → x ≤ℤ y → u ≤ℤ v → (x +ℤ u) ≤ℤ (y +ℤ v)
+pub add_raises : (x y u v : ℤ) → x ≤ℤ y → u ≤ℤ v → (x +ℤ u) ≤ℤ (y +ℤ v)
 add_raises x y u v h k = omega (arith, ints)
 
 min_raises : (x y u v : ℤ) → x ≤ℤ y → u ≤ℤ v → int_min x u ≤ℤ int_min y v

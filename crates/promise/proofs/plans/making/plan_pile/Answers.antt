@@ -9,7 +9,7 @@ use Rattle.promise.specs.Planning.{BestOn, NobodyEarnsMore, PlanEarns, PlansAs, 
 use Rattle.promise.specs.Promises.{Promises}
 use Rattle.promise.specs.WholePlan.{IsPlanOf}
 use Rattle.promise.proofs.Earning.{best_of_pile}
-use Rattle.promise.proofs.Preparing.{states_are, told_error}
+use Rattle.promise.proofs.Preparing.{states_are, told_error, unplanned_as}
 use Rattle.promise.proofs.Promising.{meaning_is, on_meaning, with_meaning}
 use Rattle.writeout.proofs.Outcomes.{wrote}
 use Rattle.promise.proofs.Whole.{front_length, holds_front, sizes_fit, whole_plan, worth_told}
@@ -22,7 +22,7 @@ returns-in_err-written-clause-answer g c =
     let m = g.P.SiteModel.meaning c.args.pile.now in
     let why = c.in_err-written.field-0.0 in
     let is : c.from_residual.result ≡ Err why = told_error c.from_residual.result why c.from_residual.ensures.1 in
-    subst (PlansAs w m c.args.horizon c.args.tables.now) (sym is) ?
+    subst (PlansAs w m c.args.horizon c.args.tables.now) (sym is) (unplanned_as w m c.args.horizon c.args.tables.now why c.in_err-written.ensures.answer)
 
 pub fill-requires : goal.fill-requires
 fill-requires g c =
