@@ -72,7 +72,7 @@ WishesShow =
     → mask h < 2 ^ labels → k < length b.wishes
     → labelled (mask_over labels mask b h) (labels + k)
     ≡ holds (slice_index_or (formulas b.nodes) (slice_index_or b.wishes k d).node truth)
-        (trace_of mask h) (end_of h)
+    (trace_of mask h) (end_of h)
 
 -- the labels below keep their bits
 abbrev pub LabelsStay : Type 0
