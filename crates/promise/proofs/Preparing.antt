@@ -1,7 +1,7 @@
 -- What is refused before anything is allocated, and that memory may be wanting only where nothing is. For others: `states_are`,
 -- `after_written`, `refused_writing`, `told_error`,
 -- `unplanned_as` and `memory_as`.
-use Rattle.std.proofs.Common.{◌≡◌, ℕ, Some, None, Option, Ok, Err, Result, sym, ap, ◌∙◌}
+use Rattle.std.proofs.Common.{◌≡◌, ℕ, Some, None, Ok, Err, Result, sym, ap, ◌∙◌}
 use Rattle.std.specs.Option.{option_or}
 use Rattle.std.specs.Result.{IsErrAnd}
 use Rattle.model.specs.Models.{Model}

@@ -1,5 +1,5 @@
 -- That a plan which was made is whole: `whole_plan`.
-use Rattle.std.proofs.Common.{◌≡◌, ℕ, ◌+◌, ◌*◌, ◌≤◌, List, length, take, None, Ok, Result, ℤ, sym, ap, ◌∙◌, subst, arith}
+use Rattle.std.proofs.Common.{◌≡◌, ℕ, ◌*◌, ◌≤◌, List, length, take, None, Ok, Result, ℤ, sym, ap, ◌∙◌, subst, arith}
 use Rattle.std.specs.Prelude.{vec_items}
 use Rattle.std.proofs.lemmas.List.{length-take, get_or-take}
 use Rattle.model.specs.Models.{Model}
@@ -60,6 +60,10 @@ pub worth_told : (v x : ℤ) (s h a b : ℕ) → sizes_refusal s h a b ≡ None 
 worth_told v x s h a b none answer =
     let same : ◌≡◌ {A = Result ℤ Refusal} (Ok v) (Ok x) = answer ∙ ap (λ why. unless why x) none in
     cc
+
+-- a plan of a pile is one of the same pile
+pub plan_of_same : (w : Weigh) (a b : Piling) (h : ℕ) (p : Plan) → a ≡ b → IsPlanOf w a h p → IsPlanOf w b h p
+plan_of_same w a b h p same is = subst (λ x. IsPlanOf w x h p) same is
 
 -- the first places of a table hold what the table holds there
 pub holds_front : (f : ℕ → ℕ) (n k : ℕ) (xs : List ℕ) → n ≡ k → k ≤ length xs → HoldsTo f k xs → HoldsTo f k (take n xs)

@@ -1,6 +1,6 @@
 -- Planning on the book that is written out of a pile: what is answered, what the tables hold after, and that the choices, taken as a
 -- policy over histories of the ground model, earn exactly the worth, while no policy that chooses from the whole history earns more.
-use Rattle.std.specs.Prelude.{◌≡◌, ℕ, ◌+◌, ◌*◌, List, length, ℤ, ◌≤ℤ◌, Some, None, Option, Ok, Err, Result}
+use Rattle.std.specs.Prelude.{◌≡◌, ℕ, ◌+◌, ◌*◌, length, ℤ, ◌≤ℤ◌, Some, None, Option, Ok, Err, Result}
 use Rattle.std.specs.Option.{option_or}
 use Rattle.model.specs.Models.{Model}
 use Rattle.pile.specs.Piles.{Piling, shown_on}

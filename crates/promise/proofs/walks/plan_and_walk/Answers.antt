@@ -1,8 +1,6 @@
-use Rattle.std.proofs.Common.{sym, subst}
-use Rattle.std.specs.Prelude.{IfOk}
-use Rattle.promise.specs.Walking.{CourseInBook, CourseTold, StepsInBook, StepsTold}
-use Rattle.promise.specs.WholePlan.{IsPlanOf}
-use Rattle.promise.proofs.Agreeing.{agree_on_pile, course_in_book, course_on_pile, own_book, steps_agree, steps_in_book}
+use Rattle.std.proofs.Common.{subst}
+use Rattle.promise.specs.Walking.{CourseTold, StepsTold}
+use Rattle.promise.proofs.Agreeing.{course_in_book, course_on_pile, own_book, steps_agree, steps_in_book}
 use Rattle.promise.proofs.Promising.{meaning_is, on_meaning, with_meaning}
 use Rattle.promise.proofs.walks.plan_and_walk.Goals as goal
 

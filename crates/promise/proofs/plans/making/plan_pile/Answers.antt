@@ -5,14 +5,13 @@ use Rattle.sitebook.specs.Contents.{contents}
 use Rattle.writeout.specs.Copies.{by_origin}
 use Rattle.pile.specs.Piles.{Piling}
 use Rattle.promise.specs.Corresponding.{book_model, place_in}
-use Rattle.promise.specs.Planning.{BestOn, NobodyEarnsMore, PlanEarns, PlansAs, start_worth}
+use Rattle.promise.specs.Planning.{BestOn, PlansAs, start_worth}
 use Rattle.promise.specs.Promises.{Promises}
-use Rattle.promise.specs.WholePlan.{IsPlanOf}
 use Rattle.promise.proofs.Earning.{best_of_pile}
 use Rattle.promise.proofs.Preparing.{states_are, told_error, unplanned_as}
 use Rattle.promise.proofs.Promising.{meaning_is, on_meaning, with_meaning}
 use Rattle.writeout.proofs.Outcomes.{wrote}
-use Rattle.promise.proofs.Whole.{front_length, holds_front, sizes_fit, whole_plan, worth_told}
+use Rattle.promise.proofs.Whole.{front_length, holds_front, plan_of_same, sizes_fit, whole_plan, worth_told}
 use Rattle.promise.proofs.plans.making.plan_pile.Given.{Over}
 use Rattle.promise.proofs.plans.making.plan_pile.Goals as goal
 
@@ -84,7 +83,7 @@ returns-clause-plan g c =
     let back : to_z w64 (of_z w64 c.in_ok-worth.worth) ≡ c.in_ok-worth.worth = search rules in
     let answer = subst (λ x. Ok c.in_ok-worth.worth ≡ answer_of w (by_origin x) h (length t.worths.now) (length t.choices.now)) told.1 c.in_ok-worth.ensures.answer in
     let worth = worth_told c.in_ok-worth.worth (start_worth w (book_model m) h) (book_model m).span h (length t.worths.now) (length t.choices.now) told.2 answer in
-    subst (λ x. IsPlanOf w x h _) (own_is g c)
+    plan_of_same w (own g c) _ h _ (own_is g c)
     (whole_plan w (g.met.W.Weighing.lawful c.args.weighing.now) (own g c) h promised.represents promised.corresponds
     _ written.few written.states written.words told.1 refl c.unit.ensures.unit (back ∙ worth)
     (ap length c.in_ok-worth.ensures.kept ∙ front_length _ _ c.fill.new.choices places room)

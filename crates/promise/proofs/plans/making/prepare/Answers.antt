@@ -1,11 +1,11 @@
-use Rattle.std.proofs.Common.{◌≡◌, ◌*◌, ◌≤◌, length, take, Some, None, Ok, Err, sym, ap, ◌∙◌, subst, arith, mul-le-mul}
+use Rattle.std.proofs.Common.{◌≡◌, ◌*◌, ◌≤◌, length, take, Some, Ok, Err, sym, ap, ◌∙◌, subst, arith, mul-le-mul}
 use Rattle.planning.proofs.Accepting.{accepted_short, refused_by, unrefused}
 use Rattle.planning.specs.Plans.{sizes_refusal}
 use Rattle.sitebook.specs.Contents.{contents}
 use Rattle.sitelayout.specs.Layout.{site_format}
 use Rattle.sitelayout.specs.Site.{Site}
 use Rattle.words.specs.Format.{Verdict, got, reading}
-use Rattle.writeout.specs.Tables.{Represents, out_book, outcome}
+use Rattle.writeout.specs.Tables.{out_book, outcome}
 use Rattle.promise.specs.Planning.{ReadyAs, plan_refusal}
 use Rattle.promise.specs.declared.causes.Unplanned.TheVariants.{Refused}
 use Rattle.promise.proofs.Preparing.{after_written, memory_as, refused_writing, states_are, told_error}
