@@ -1,5 +1,6 @@
--- Of the nodes that are used, some are remembered from step to step by an item. The held item of a node is kept if it is a since or a once, or the operand
--- of a previous that is used; its failed item is kept if it is an always. Items are ordered by node number, held before failed.
+-- Of the nodes that are used, some are remembered from step to step by an item. The held item of a node is kept if it is a since
+-- or a once, or the operand of a previous that is used; its failed item is kept if it is an always. Items are ordered by node
+-- number, held before failed.
 use Rattle.std.specs.Prelude.{◌≡◌, ℕ, zero, suc, ◌+◌, ◌*◌, ◌<◌, ◌≤◌, Bool, true, false, if◌then◌else◌, IsTrue, ◌&&◌, ◌||◌, ◌⊎◌, List, [], ◌∷◌, ◌++◌, map, length, Some, None, Option, ◌==◌, slice_index, slice_index_or, Contains}
 use Rattle.bounded.specs.Listed.{listed}
 use Rattle.bounded.specs.declared.Bounded.{Bounded}
@@ -69,11 +70,16 @@ Remembered nodes used i =
 
 -- which items a list holds, and in which order: no item comes twice
 pub record Selected (nodes : List Node) (used : List Bool) (items : List Item) : Type 0 where
-  pub held_kept : (i : ℕ) → i < length nodes → IsTrue (used_at used i) → Remembered nodes used i → Contains items (Held i)
-  pub held_only : (i : ℕ) → Contains items (Held i) → (i < length nodes) × IsTrue (used_at used i) × Remembered nodes used i
-  pub failed_kept : (i : ℕ) → i < length nodes → IsTrue (used_at used i) → IsTrue (is_always (node_at nodes i)) → Contains items (Failed i)
-  pub failed_only : (i : ℕ) → Contains items (Failed i) → (i < length nodes) × IsTrue (used_at used i) × IsTrue (is_always (node_at nodes i))
-  pub rising : (j k : ℕ) (d : Item) → j < k → k < length items → rank (slice_index_or items j d) < rank (slice_index_or items k d)
+  pub held_kept : (i : ℕ) → i < length nodes → IsTrue (used_at used i) → Remembered nodes used i
+      → Contains items (Held i)
+  pub held_only : (i : ℕ) → Contains items (Held i)
+      → (i < length nodes) × IsTrue (used_at used i) × Remembered nodes used i
+  pub failed_kept : (i : ℕ) → i < length nodes → IsTrue (used_at used i) → IsTrue (is_always (node_at nodes i))
+      → Contains items (Failed i)
+  pub failed_only : (i : ℕ) → Contains items (Failed i)
+      → (i < length nodes) × IsTrue (used_at used i) × IsTrue (is_always (node_at nodes i))
+  pub rising : (j k : ℕ) (d : Item) → j < k → k < length items
+      → rank (slice_index_or items j d) < rank (slice_index_or items k d)
 
 -- the kept items of at most 128 nodes; or there are more nodes, or more items than the list can hold
 abbrev pub ListsItems : {most : ℕ} → List Node → List Bool → Option (Bounded Item most) → Type 0
