@@ -2,7 +2,7 @@
 
 #![tactic(auto)]
 
-ghost use Rattle.std.specs.Prelude.{◌≡◌, ℕ, ◌+◌, ◌*◌, ◌/◌, ◌%◌, ◌^◌, ◌<◌, ◌≤◌, ◌&&◌, length, drop, MatchOption, ◌==◌, nat_lt};
+ghost use Rattle.std.specs.Prelude.{◌≡◌, ◌%◌, ◌^◌, ◌<◌, ◌≤◌, ◌&&◌, length, drop, MatchOption, ◌==◌, nat_lt};
 ghost use Rattle.words.specs.Format.{opened};
 ghost use Rattle.words.specs.Tests.{none};
 ghost use Rattle.words.specs.Words.{first_word, field as field_of};
