@@ -21,16 +21,16 @@ node_kind (Since a b) = 6
 node_kind (Always a) = 7
 node_kind (Once a) = 8
 
-abbrev pub first_of : Node → ℕ
-first_of (Label p) = p
-first_of n = slice_index (operands n) 0
+abbrev pub first_field : Node → ℕ
+first_field (Label p) = p
+first_field n = slice_index (operands n) 0
 
-abbrev pub second_of : Node → ℕ
-second_of n = slice_index (operands n) 1
+abbrev pub second_field : Node → ℕ
+second_field n = slice_index (operands n) 1
 
 -- the same kind and fields
 abbrev pub same_node : Node → Node → Bool
-same_node n m = node_kind n == node_kind m && (first_of n == first_of m && second_of n == second_of m)
+same_node n m = node_kind n == node_kind m && (first_field n == first_field m && second_field n == second_field m)
 
 -- the node with its operands through a list of numbers
 abbrev pub renumbered : List ℕ → Node → Node
