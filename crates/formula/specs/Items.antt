@@ -9,7 +9,7 @@ use Rattle.formula.specs.declared.Node.TheVariants.{True, Previous, Since, Alway
 use Rattle.formula.specs.declared.Item.{Item}
 use Rattle.formula.specs.declared.Item.TheVariants.{Held, Failed}
 use Rattle.formula.specs.Merging.{nodes_of, numbers_of}
-use Rattle.formula.specs.Resting.{resting}
+use Rattle.formula.specs.Resting.{node_at, used_at, resting}
 
 -- a since or a once
 abbrev pub lasting : Node → Bool
@@ -25,14 +25,6 @@ is_always n = false
 abbrev pub looks_back : ℕ → Node → Bool
 looks_back i (Previous a) = a == i
 looks_back i n = false
-
--- node i
-abbrev pub node_at : List Node → ℕ → Node
-node_at nodes i = slice_index_or nodes i True
-
--- node i is used
-abbrev pub used_at : List Bool → ℕ → Bool
-used_at used i = slice_index_or used i false
 
 -- some used node below k is the previous of i
 abbrev pub back_below : List Node → List Bool → ℕ → ℕ → Bool

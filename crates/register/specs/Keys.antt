@@ -1,7 +1,7 @@
 -- A register keeps, of keys that are equal, the first, in the order of entry: entering a key puts it at the end of the list,
 -- unless one that is equal to it stands there. Which keys are equal is told by a test of two keys, the key's own `==`. The place
 -- of a key is where the first that is equal to it stands, counted from 0, or the list's length where none does.
-use Rattle.std.specs.Prelude.{◌≡◌, ℕ, suc, ◌+◌, ◌<◌, ◌≤◌, Bool, if◌then◌else◌, IsTrue, IsFalse, List, [], ◌∷◌, ◌++◌, length, take, drop, Some, None, Option, nat_lt, slice_index_or, Contains}
+use Rattle.std.specs.Prelude.{◌≡◌, ℕ, suc, ◌+◌, ◌<◌, ◌≤◌, Bool, if◌then◌else◌, IsTrue, IsFalse, List, [], ◌∷◌, ◌++◌, length, take, drop, Some, None, Option, nat_lt, slice_index_or, AllPairs, Contains}
 
 -- equal keys have one number, that of their bucket: the law of a key
 abbrev pub SharesBucket : {K : Type 0} → (K → K → Bool) → (K → ℕ) → Type 0
@@ -17,7 +17,7 @@ Identical x y = x ≡ y
 
 -- of the keys at two places no two are the same
 abbrev pub DistinctBy : {K : Type 0} → (K → K → Type 0) → List K → Type 0
-DistinctBy {K} Same ks = (i j : ℕ) (d : K) → (i < j) × (j < length ks) → ¬ Same (slice_index_or ks i d) (slice_index_or ks j d)
+DistinctBy Same ks = AllPairs (λ x y. ¬ Same x y) ks
 
 -- no value twice
 abbrev pub Distinct : {K : Type 0} → List K → Type 0
