@@ -32,7 +32,8 @@ fn renumber(numbers: &[u8], word: Node) -> Node
     }
 }
 
-/// Merges node words: words with the same kind and fields, operands merged first, are one node. There is no answer for more than `NODES` words.
+/// Merges node words: words with the same kind and fields, operands merged first, are one node. There is no answer for more than
+/// `NODES` words.
 // A register lists its keys in a table that it is lent: here one that is copied at the end.
 pub fn merge(words: &[Node]) -> Option<Merged>
     ensures answer { Merges words.now result }

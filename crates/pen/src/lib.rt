@@ -4,8 +4,8 @@
 
 ghost use Rattle.std.specs.Prelude.{◌≡◌, ℕ, ◌*◌, ◌≤◌, length, Some};
 
-/// Writes words into a table of bytes, each word's lowest byte first. The words so far stand first in the table, and all after them is 0; or they
-/// were too many for it, and nobody counts them.
+/// Writes words into a table of bytes, each word's lowest byte first. The words so far stand first in the table, and all after
+/// them is 0; or they were too many for it, and nobody counts them.
 // The table is lent, and how long it is, is the caller's to say: so the words are counted beside it.
 #[derive(Drop)]
 pub struct Pen<'a> {
@@ -32,8 +32,8 @@ impl<'a> Pen<'a> {
     }
 
     /// One word more. Where there is no room for it, nothing more is written, and the words are no longer counted.
-    // The room is asked by hand: tried with `first_chunk_mut` of the table's rest, after which the check knew no more of the table than its
-    // length.
+    // The room is asked by hand: tried with `first_chunk_mut` of the table's rest, after which the check knew no more of the table
+    // than its length.
     pub fn put(&mut self, word: u32)
         ensures { Adds (word ∷ []) self.old self.new }
     {
