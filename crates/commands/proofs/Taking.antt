@@ -1,7 +1,7 @@
 -- Options hold what stands before the rest of the words; with each pair of a name and a value they hold one value more.
-use Rattle.std.proofs.Common.{length, arith, ◌≡◌, ℕ, Bool, true, false, List, [], ◌∷◌, ◌++◌, map, sym, refl, ap, ◌∙◌, append_assoc, append-nil, cond}
+use Rattle.std.proofs.Common.{length, arith, ◌≡◌, ℕ, Bool, true, false, List, [], ◌∷◌, ◌++◌, map, sym, refl, ap, ◌∙◌, append_assoc, append-nil, if◌then◌else◌}
 use Rattle.std.specs.Prelude.{bytes_eq}
-use Rattle.commands.specs.Asked.{Holds, Takes, number_of, one_more, option_word, values_of}
+use Rattle.commands.specs.Options.{Holds, Takes, number_of, one_more, option_word, values_of}
 use Rattle.commands.specs.declared.options.Name.{Name}
 use Rattle.commands.specs.declared.options.Name.TheVariants.{Site, Rule, Wish, To, Horizon, Weighing}
 use Rattle.commands.specs.declared.options.Options.{Options}
@@ -12,7 +12,7 @@ pub record Before (words rest : List (List ℕ)) (o : Options) : Type 0 where
   pub holds : Holds given o
 
 -- one value more before is one less in the rest
-seam : (b : Bool) (xs : List (List ℕ)) (x : List ℕ) (rest : List (List ℕ)) → xs ++ (cond b (x ∷ rest) rest) ≡ cond b (xs ++ (x ∷ [])) xs ++ rest
+seam : (b : Bool) (xs : List (List ℕ)) (x : List ℕ) (rest : List (List ℕ)) → xs ++ (if b then x ∷ rest else rest) ≡ (if b then xs ++ (x ∷ []) else xs) ++ rest
 seam true xs x rest = sym (append_assoc xs (x ∷ []) rest)
 seam false xs x rest = refl
 
@@ -21,7 +21,7 @@ before_more words from rest word value name o p before cut is takes = record {
   given = one_more name value before.given;
   parts = λ other. before.parts other
       ∙ ap (λ r. before.given other ++ values_of other r) cut
-      ∙ ap (λ w. before.given other ++ cond (bytes_eq w (option_word other)) (value ∷ values_of other rest) (values_of other rest)) is
+      ∙ ap (λ w. before.given other ++ (if bytes_eq w (option_word other) then value ∷ values_of other rest else values_of other rest)) is
       ∙ seam (bytes_eq (option_word name) (option_word other)) (before.given other) value (values_of other rest);
   holds = takes before.given before.holds;
 }

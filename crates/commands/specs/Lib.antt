@@ -1,5 +1,4 @@
-pub mod Asked
-pub mod Built
-pub mod Kinds
-pub mod Lines
-pub mod Status
+pub mod Checking
+pub mod CommandLine
+pub mod Options
+pub mod Unlaid

@@ -1,10 +1,9 @@
 // Building the pile of the books that options name.
-ghost use Rattle.anyhow.specs.Error.{HasMessage};
-ghost use Rattle.commands.specs.Built.{NamesRefused};
+ghost use Rattle.commands.specs.Unlaid.{NamesFile, NamesRefused};
 ghost use Rattle.pile.specs.Stacks.{AllLaid, HasFloors, ground_of};
 ghost use Rattle.promise.specs.WholePlan.{IsPlanOf};
 ghost use Rattle.slotplan.specs.Planning.{weigh_of};
-ghost use Rattle.std.specs.Prelude.{◌≡◌, IfErr, IfOk, IfSome, OnOk, Some, option_map, slice_get};
+ghost use Rattle.std.specs.Prelude.{◌≡◌, IfErr, IfOk, OnOk};
 
 use crate::options::{Asked, GroundFile, Options};
 use anyhow::{Context, Error};
@@ -44,8 +43,7 @@ fn laid<G: GroundModel + Drop>(
     ensures floors { IfOk result (λ pile. HasFloors pile books.now) }
     ensures all { OnOk result (AllLaid (G.SiteModel.meaning ground) books.now) }
     ensures refused { IfErr result
-        (NamesRefused (G.SiteModel.meaning ground) books.now
-        (λ floor. option_map (λ file. file.now) (slice_get files.now floor))) }
+        (NamesRefused (G.SiteModel.meaning ground) books.now files.now) }
 {
     match lay_all(ground, books) {
         Ok(pile) => Ok(pile),
@@ -55,8 +53,7 @@ fn laid<G: GroundModel + Drop>(
 
 // Why a book is not laid, with its file.
 fn named(unlaid: Unlaid, files: &[&str]) -> Error
-    ensures { IfSome (option_map (λ file. file.now) (slice_get files.now unlaid.floor))
-        (λ file. HasMessage (Some file) result) }
+    ensures { NamesFile files.now unlaid.floor result }
 {
     let file = files.get(unlaid.floor).copied().unwrap_or("");
     refused(unlaid.refusal).context(format_args!("{file}"))

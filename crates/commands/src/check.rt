@@ -1,6 +1,5 @@
 // Says what a book holds, or why it is refused.
-ghost use Rattle.commands.specs.Kinds.{Tells, TellsFile, kind_word};
-ghost use Rattle.commands.specs.Status.{status_of, status_told};
+ghost use Rattle.commands.specs.Checking.{Tells, TellsFile, kind_word, status_of, status_told};
 ghost use Rattle.rulelayout.specs.Layout.{rule_format};
 ghost use Rattle.sitelayout.specs.Layout.{site_format};
 ghost use Rattle.std.specs.Prelude.{◌≡◌, ◌≢◌, ◌⊎◌, IfOk, OnErr};

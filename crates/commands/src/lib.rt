@@ -2,15 +2,15 @@
 
 #![tactic(auto)]
 
-ghost use Rattle.commands.specs.Lines.{StatusBy};
+ghost use Rattle.commands.specs.CommandLine.{StatusBy};
 ghost use Rattle.std.specs.Prelude.{◌≡◌, IfOk, map, string_bytes};
 
 mod build;
 mod builtin;
 mod check;
 mod options;
+mod plan;
 mod show;
-mod slots;
 mod walking;
 mod writing;
 
@@ -47,7 +47,7 @@ pub fn run<R: Files + Print + AllocGlobal, E: Eprint, N: BufRead + Drop>(
             Ok(GOOD)
         }
         [command, options @ ..] if command.as_str() == "plan" => {
-            slots::run(rt, options)?;
+            plan::run(rt, options)?;
             Ok(GOOD)
         }
         [command, options @ ..] if command.as_str() == "walk" => {

@@ -1,5 +1,5 @@
 // The options of the commands that build a pile.
-ghost use Rattle.commands.specs.Asked.{Holds, Takes, option_word, values_of, weighing_word};
+ghost use Rattle.commands.specs.Options.{Holds, Takes, option_word, values_of, weighing_word};
 ghost use Rattle.std.specs.Prelude.{◌≡◌, ◌≢◌, ◌⊎◌, None, Some, IfOk, IfSome, IsNone, OnErr, OnOk, map, string_bytes, unwrap_or};
 ghost use Rattle.std.specs.Str.Parse.{ParsesUnsigned};
 

@@ -1,18 +1,27 @@
--- The kinds of books, and what checking a file as a book of one ends with.
+-- The kinds of books, and the status that checking a file as a book of a kind ends with: 0 where it is one, 1 where it is refused.
 use Rattle.commands.specs.declared.check.Kind.{Kind}
 use Rattle.commands.specs.declared.check.Kind.TheVariants.{Site, Rule, Wish}
-use Rattle.commands.specs.Status.{status_of}
 use Rattle.rulelayout.specs.Layout.{rule_format}
 use Rattle.sitelayout.specs.Layout.{site_format}
-use Rattle.std.specs.Prelude.{◌≡◌, ◌⊎◌, ℕ, List, codes}
+use Rattle.std.specs.Prelude.{◌≡◌, ◌⊎◌, ℕ, List, codes, Ok, Err, Result}
 use Rattle.wishlayout.specs.Layout.{wish_format}
-use Rattle.words.specs.Format.{reading}
+use Rattle.words.specs.Format.{Verdict, got, stop, reading}
 
 -- the word for a kind
 abbrev pub kind_word : Kind → List ℕ
 kind_word Site = codes "site"
 kind_word Rule = codes "rule"
 kind_word Wish = codes "wish"
+
+-- 0 where a file holds a book, 1 where it is refused
+abbrev pub status_of : {B : Type 0} → Verdict B → ℕ
+status_of (got b) = 0
+status_of (stop r p) = 1
+
+-- 0 where a reader gave a book, 1 where it gave anything else
+abbrev pub status_told : {B F : Type 0} → Result B F → ℕ
+status_told (Ok b) = 0
+status_told (Err f) = 1
 
 -- the status is what the kind's format says of the bytes; want of memory may refuse a good site book, and a bad one never ends with 0
 abbrev pub Tells : Kind → List ℕ → ℕ → Type 0
