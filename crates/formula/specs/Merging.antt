@@ -72,7 +72,7 @@ abbrev pub numbers_of : List Node → List ℕ
 numbers_of ws = (merge_all ws).numbers
 
 -- what merging keeps of words whose operands number earlier words: the formulas, each once, in the order in which they first come
-pub record Faithful (ws : List Node) : Type 0 where
+pub record KeepsFormulas (ws : List Node) : Type 0 where
   pub formulas_kept : Kept (formulas ws) (formulas (nodes_of ws))
   pub same_formula : (i : ℕ) → i < length ws
       → slice_index_or (formulas (nodes_of ws)) (slice_index (numbers_of ws) i) truth ≡ slice_index_or (formulas ws) i truth

@@ -15,12 +15,12 @@ pub struct Pen<'a> {
 }
 
 impl<'a> Pen<'a> {
-    ghost use Rattle.pen.specs.Laid.{Laid, Adds, counted};
+    ghost use Rattle.pen.specs.Pens.{HasWritten, Adds, counted};
     ghost use Rattle.std.specs.Prelude.{List, [], ◌∷◌};
 
     /// A pen at the beginning of the table, which is wiped.
     pub fn new(bytes: &'a mut [u8]) -> Pen<'a>
-        ensures empty { Laid [] result }
+        ensures empty { HasWritten [] result }
         ensures room { length result.bytes.now ≡ length bytes.old }
         ensures lent { result.bytes.ghost_name ≡ bytes.entry.ghost_name }
     {
@@ -51,7 +51,7 @@ impl<'a> Pen<'a> {
 
     /// How many words were written, unless they were too many for the table.
     pub fn written(&self) -> Option<usize>
-        ensures { (ws : List ℕ) → Laid ws self.now
+        ensures { (ws : List ℕ) → HasWritten ws self.now
             → result ≡ counted (length self.now.bytes.now) ws }
     {
         self.words

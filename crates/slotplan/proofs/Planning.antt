@@ -6,7 +6,7 @@ use Rattle.std.specs.Option.{option_or}
 use Rattle.model.specs.Models.{Model, Lawful}
 use Rattle.pile.specs.Piles.{Piling}
 use Rattle.planning.specs.Plans.{sizes_refusal, tables_hold}
-use Rattle.planning.proofs.Accepting.{unrefused}
+use Rattle.refusal.proofs.Rows.{unrefused}
 use Rattle.promise.specs.Corresponding.{book_model}
 use Rattle.promise.specs.Planning.{PlansAs, plan_refusal}
 use Rattle.promise.specs.WholePlan.{IsPlanOf}
