@@ -6,7 +6,7 @@ use Rattle.formula.specs.declared.Item.TheVariants.{Held}
 use Rattle.formula.specs.declared.Node.{Node}
 use Rattle.formula.specs.declared.Node.TheVariants.{Label, And, Previous}
 use Rattle.model.specs.Models.{Model}
-use Rattle.pile.specs.Piles.{piled, wishes}
+use Rattle.pilemodel.specs.Piles.{piled, wishes}
 use Rattle.reach.specs.Search.{codes_of}
 use Rattle.refusal.specs.declared.Refusal.{Refusal}
 use Rattle.refusal.specs.declared.Refusal.TheVariants.{NotOffered, NoSuchOutcome}

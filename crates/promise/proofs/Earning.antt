@@ -2,7 +2,7 @@
 -- `best_in_book`.
 use Rattle.std.proofs.Common.{◌≡◌, ℕ, List, ℤ, Ok, sym, subst}
 use Rattle.model.specs.Histories.{Unfolds}
-use Rattle.pile.specs.Piles.{Piling, shown_on}
+use Rattle.pilemodel.specs.Piles.{Piling, shown_on}
 use Rattle.planning.specs.Plans.{NobodyBetter, tabled}
 use Rattle.sitelayout.specs.Site.{Site}
 use Rattle.weighing.specs.Discounts.{discount_of}

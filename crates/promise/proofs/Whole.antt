@@ -4,7 +4,7 @@ use Rattle.std.specs.Prelude.{vec_items}
 use Rattle.std.proofs.lemmas.List.{length-take, get_or-take}
 use Rattle.model.specs.Models.{Model}
 use Rattle.writeout.proofs.Origins.{origin_lawful, origin_numbered}
-use Rattle.pile.specs.Piles.{Piling, shown_on}
+use Rattle.pilemodel.specs.Piles.{Piling, shown_on}
 use Rattle.planning.proofs.Accepting.{sizes_pass}
 use Rattle.planning.proofs.Better.{nobody_better}
 use Rattle.planning.proofs.Choosing.{picks_lowest}

@@ -3,7 +3,7 @@
 use Rattle.std.specs.Prelude.{◌≡◌, ℕ, ◌+◌, ◌*◌, length, ℤ, ◌≤ℤ◌, Some, None, Option, Ok, Err, Result}
 use Rattle.std.specs.Option.{option_or}
 use Rattle.model.specs.Models.{Model}
-use Rattle.pile.specs.Piles.{Piling, shown_on}
+use Rattle.pilemodel.specs.Piles.{Piling, shown_on}
 use Rattle.planning.specs.Plans.{answer_of, worth_at, choice_at, Left, tabled, sizes_refusal}
 use Rattle.promise.specs.Corresponding.{book_model, place_in}
 use Rattle.promise.specs.declared.causes.Unplanned.{Unplanned}

@@ -3,7 +3,7 @@
 -- after the record of the crossing so far.
 use Rattle.std.specs.Prelude.{◌≡◌, ℕ, ◌-◌, ◌*◌, if◌then◌else◌, ◌&&◌, List, length, Some, None, Option, nat_le, nat_lt, vec_items}
 use Rattle.model.specs.Models.{Model}
-use Rattle.pile.specs.Piles.{Piling, shown_on}
+use Rattle.pilemodel.specs.Piles.{Piling, shown_on}
 use Rattle.planning.specs.Choices.{PicksLowest}
 use Rattle.planning.specs.Plans.{choice_at, HoldsTo, tabled}
 use Rattle.promise.specs.Corresponding.{Corresponds, book_model, place_in}

@@ -4,7 +4,7 @@ use Rattle.std.proofs.lemmas.Bool.{cond-true, le-leb}
 use Rattle.std.proofs.lemmas.Option.{none-some}
 use Rattle.std.specs.Option.{option_or}
 use Rattle.model.specs.Models.{Model, Lawful}
-use Rattle.pile.specs.Piles.{Piling}
+use Rattle.pilemodel.specs.Piles.{Piling}
 use Rattle.planning.specs.Plans.{sizes_refusal, tables_hold}
 use Rattle.refusal.proofs.Rows.{unrefused}
 use Rattle.promise.specs.Corresponding.{book_model}

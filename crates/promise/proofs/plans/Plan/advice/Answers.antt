@@ -1,5 +1,5 @@
 use Rattle.std.proofs.Common.{◌≡◌, ℕ, ◌-◌, cond, leb, List, length, Some, None, Option, sym, ap, ◌∙◌}
-use Rattle.pile.specs.Piles.{Piling, shown_on}
+use Rattle.pilemodel.specs.Piles.{Piling, shown_on}
 use Rattle.promise.specs.Corresponding.{book_model, place_in}
 use Rattle.promise.specs.WholePlan.{IsPlanOf, choice_for, policy_of}
 use Rattle.promise.specs.declared.plans.Plan.{Plan}
