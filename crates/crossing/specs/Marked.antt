@@ -18,7 +18,7 @@ use Rattle.sitelayout.specs.Site.{Site}
 use Rattle.walk.specs.declared.Step.{Step}
 use Rattle.walk.specs.Walker.{begun, run}
 use Rattle.weighing.specs.Discounts.{discount_of}
-use Rattle.weighing.specs.Weighings.{mean, worst}
+use Rattle.weighmodel.specs.Weighings.{mean, worst}
 use Rattle.wishbook.specs.Book.{Book, book_of}
 use Rattle.wishlayout.specs.declared.Wish.{Wish}
 use Rattle.wishlayout.specs.Layout.{wish_format}

@@ -17,7 +17,7 @@ use Rattle.promise.specs.declared.advising.Advice.TheVariants.{Choose, Tell, End
 use Rattle.promise.specs.declared.plans.Plan.{Plan}
 use Rattle.walk.specs.Walker.{Walk, standing, choosing, chosen_in, is_choosing}
 use Rattle.weighing.specs.Discounts.{discount_of}
-use Rattle.weighing.specs.Weighings.{Weigh}
+use Rattle.weighmodel.specs.Weighings.{Weigh}
 use Rattle.worth.specs.Policies.{Policy}
 use Rattle.worth.specs.Worths.{choice_of}
 

@@ -17,7 +17,7 @@ use Rattle.walk.specs.Reckoner.{Agree, StaysBeside, begins, reckoned_after}
 use Rattle.walk.specs.Walker.{Walk, standing, choosing, begun, chosen_in, is_choosing, reached, run}
 use Rattle.walk.proofs.Agreement.{agrees_over_all, beside_over_all}
 use Rattle.weighing.specs.Discounts.{discount_of}
-use Rattle.weighing.specs.Weighings.{Weigh}
+use Rattle.weighmodel.specs.Weighings.{Weigh}
 use Rattle.writeout.specs.Copies.{by_origin}
 use Rattle.writeout.specs.Tables.{Writable, out_book}
 

@@ -17,7 +17,7 @@ use Rattle.reach.specs.Search.{codes_of}
 use Rattle.refusal.specs.declared.Refusal.{Refusal}
 use Rattle.refusal.specs.Rows.{unless}
 use Rattle.sitebook.specs.Contents.{contents}
-use Rattle.weighing.specs.Weighings.{Weigh, LawfulWeigh}
+use Rattle.weighmodel.specs.Weighings.{Weigh, LawfulWeigh}
 use Rattle.writeout.specs.Tables.{Represents, Writable, out_book, word_count}
 
 module _ (w : Weigh) (law : LawfulWeigh w) (pile : Piling) (h : ℕ) (represents : Represents pile.model) (corresponds : Corresponds pile) where

@@ -16,7 +16,7 @@ use Rattle.refusal.specs.declared.Refusal.{Refusal}
 use Rattle.sitebook.specs.Contents.{contents}
 use Rattle.sitelayout.specs.Layout.{site_words}
 use Rattle.weighing.specs.Discounts.{discount_of}
-use Rattle.weighing.specs.Weighings.{Weigh, LawfulWeigh}
+use Rattle.weighmodel.specs.Weighings.{Weigh, LawfulWeigh}
 use Rattle.words.specs.Format.{file}
 use Rattle.worth.specs.Policies.{Policy, Admissible, earns, Best, planned}
 use Rattle.worth.specs.Worths.{worth_of}

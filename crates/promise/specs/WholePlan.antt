@@ -16,7 +16,7 @@ use Rattle.sitebook.specs.Contents.{contents}
 use Rattle.walk.specs.Reckoner.{Reckoner, begins, reckoned_after}
 use Rattle.walk.specs.Walker.{Walk, begun, reached}
 use Rattle.weighing.specs.Discounts.{discount_of}
-use Rattle.weighing.specs.Weighings.{Weigh}
+use Rattle.weighmodel.specs.Weighings.{Weigh}
 use Rattle.worth.specs.Policies.{Policy}
 use Rattle.worth.specs.Worths.{choice_of}
 use Rattle.writeout.specs.Tables.{Writable, out_book, word_count}

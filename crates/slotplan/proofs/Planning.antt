@@ -18,7 +18,7 @@ use Rattle.reach.specs.Search.{codes_of}
 use Rattle.refusal.specs.declared.Refusal.{Refusal}
 use Rattle.refusal.specs.declared.Refusal.TheVariants.{HorizonTooLong, PlanTableShort}
 use Rattle.std.specs.Prelude.{IfOk}
-use Rattle.weighing.specs.Weighings.{Weigh}
+use Rattle.weighmodel.specs.Weighings.{Weigh}
 use Rattle.writeout.specs.declared.Written.{Written}
 use Rattle.writeout.specs.Tables.{Represents, Writable, outcome, word_count, written_refusal}
 use Rattle.slotplan.specs.Planning.{PlansOr}

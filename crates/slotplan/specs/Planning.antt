@@ -12,7 +12,7 @@ use Rattle.refusal.specs.declared.Refusal.{Refusal}
 use Rattle.refusal.specs.declared.Refusal.TheVariants.{TooManyStates, HorizonTooLong}
 use Rattle.slotplan.specs.declared.WeighBy.{WeighBy}
 use Rattle.slotplan.specs.declared.WeighBy.TheVariants.{Mean, Worst}
-use Rattle.weighing.specs.Weighings.{Weigh, mean, worst}
+use Rattle.weighmodel.specs.Weighings.{Weigh, mean, worst}
 use Rattle.writeout.specs.Tables.{Writable}
 
 -- the weighing that is asked for

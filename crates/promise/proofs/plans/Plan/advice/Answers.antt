@@ -11,7 +11,7 @@ use Rattle.walk.specs.Reckoner.{Reckoner, StaysBeside, begins, reckoned_after}
 use Rattle.walk.specs.Views.{walk_of}
 use Rattle.walk.specs.Walker.{Walk, begun, chosen_in, reached, stands_at, walk_has}
 use Rattle.weighing.specs.Discounts.{discount_of}
-use Rattle.weighing.specs.Weighings.{Weigh}
+use Rattle.weighmodel.specs.Weighings.{Weigh}
 use Rattle.writeout.specs.Copies.{by_origin}
 use Rattle.promise.proofs.plans.Plan.advice.Goals as goal
 
