@@ -87,8 +87,7 @@ fn wish<R: Files + AllocGlobal>(rt: &R, file: &str) -> anyhow::Result<WishBook> 
 // The plan that is asked for.
 pub fn plan<P: Pile>(heap: Global, pile: &P, asked: Asked) -> anyhow::Result<Plan>
     ensures { IfOk result
-        (IsPlanOf (weigh_of asked.weighing) (P.Pile.base pile.now) (P.Pile.floors pile.now)
-        (P.SiteModel.meaning pile.now) asked.horizon) }
+        (IsPlanOf (weigh_of asked.weighing) (P.Pile.piling pile.now) asked.horizon) }
 {
     plan_by(heap, pile, asked.weighing, asked.horizon).map_err(unplanned)
 }

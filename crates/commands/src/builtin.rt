@@ -6,7 +6,7 @@ use anyhow::Context;
 use crossing::{site_words, wish_words};
 use ground::GroundBook;
 use model::{SiteModel, reachable_at};
-use pile::{Three, stack, start_of};
+use pile::{Floor, Three, Tower, truthful_start};
 use promise::{Journey, Plan, Tables, Walks, plan_and_walk};
 use sitebook::read_site;
 use slotplan::Room;
@@ -48,7 +48,7 @@ pub fn run<R: Print + AllocGlobal>(rt: &R) -> anyhow::Result<()> {
     let wish = read_wish(bytes_of(heap, &wish_words())?.as_slice())?;
     println!(rt; "wish book:")?;
     show::wishes(rt, &wish)?;
-    let pile = stack(GroundBook::Site(site), Some(wish), None, None);
+    let (pile, _) = Three::stack(GroundBook::Site(site), &[Floor::Wishes(wish)]);
     let sizes = pile.sizes();
     println!(rt;
         "the wish laid on the site: {} labels, rewards within {}",
@@ -61,7 +61,7 @@ pub fn run<R: Print + AllocGlobal>(rt: &R) -> anyhow::Result<()> {
 
 // Slot by slot: the site's state, what is remembered, and whether the wish holds.
 fn follow(rt: &impl Print, pile: &Three<GroundBook>) -> anyhow::Result<()> {
-    let mut state = start_of(pile);
+    let mut state = truthful_start(pile);
     slot(rt, pile, 0, state)?;
     for (i, (action, outcome)) in STEPS.into_iter().enumerate() {
         state = reachable_at(pile, state, action, outcome).context(

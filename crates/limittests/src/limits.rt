@@ -1,7 +1,7 @@
 // The limits of walks, of wish books and of piles.
 use crossing::{site_words, wish_words};
 use layer::Layer;
-use pile::{Footing, Unlaid, lay_all, lay_each, stack};
+use pile::{Floor, Footing, Three, Tower, Unlaid, lay_all, lay_each};
 use refusal::{Refusal, Unread};
 use sitebook::{SiteBook, read_site};
 use std::alloc::Global;
@@ -91,12 +91,9 @@ fn bound_of_2000(rt: HostRuntime) -> Result<(), Fail> {
 fn three_layers(rt: HostRuntime) -> Result<(), Fail> {
     let heap = rt.alloc();
     let book = wish(heap, &wish_words())?;
-    let pile = stack(
-        site(heap, &site_words())?,
-        Some(book),
-        Some(book),
-        Some(book),
-    );
+    let four = [Floor::Wishes(book); 4];
+    let (pile, rest) = Three::stack(site(heap, &site_words())?, &four);
+    assert_eq!(rt; rest.len(), 1, "there is room for three");
     assert_eq!(rt; pile.below().below().refusal(), None);
     assert_eq!(rt; pile.below().refusal(), None);
     assert_eq!(rt; pile.refusal(), None);

@@ -1,7 +1,7 @@
 // The file of the built-in site, in an array, so that the tests have no memory of their own to run out of; and the pile of the crossing.
 use crossing::{site_words, wish_words};
 use pen::Pen;
-use pile::{Three, stack};
+use pile::{Floor, Three, Tower};
 use refusal::Unread;
 use sitebook::{SiteBook, read_site};
 use std::alloc::Global;
@@ -31,5 +31,6 @@ fn wish_file() -> [u8; 24] {
 pub fn crossing(heap: Global) -> Result<Three<SiteBook>, Unread> {
     let site = read_site(heap, &site_file())?;
     let wish = read_wish(&wish_file())?;
-    Ok(stack(site, Some(wish), None, None))
+    let (pile, _) = Three::stack(site, &[Floor::Wishes(wish)]);
+    Ok(pile)
 }

@@ -7,8 +7,8 @@ use Rattle.refusal.specs.declared.Refusal.{Refusal}
 use Rattle.wishbook.specs.declared.book.WishBook.{WishBook}
 use Rattle.wishbook.specs.Contents.{contents}
 use Rattle.layermodel.specs.Layered.{fits, over}
-use Rattle.pile.specs.Piles.{piled}
-use Rattle.pile.specs.Pushing.{floor_in}
+use Rattle.pilemodel.specs.Piles.{piled}
+use Rattle.pilemodel.specs.Raised.{floor_in}
 use Rattle.pile.specs.Stacks.{Stack, books_of, floor_refusal, why_not, books_as_floors}
 
 -- the books that are laid, each on the model with those before it that are

@@ -10,8 +10,8 @@ use Rattle.layermodel.specs.Layered.{refusal}
 use Rattle.layer.specs.InMemory.{meaning_of}
 use Rattle.pile.specs.declared.footing.Footing.{Footing}
 use Rattle.pile.specs.declared.laying.Unlaid.{Unlaid}
-use Rattle.pile.specs.Piles.{Floor, bare, wishes, floor_over, piled}
-use Rattle.pile.specs.Pushing.{floor_in}
+use Rattle.pilemodel.specs.Piles.{Floor, bare, wishes, floor_over, piled}
+use Rattle.pilemodel.specs.Raised.{floor_in}
 
 -- the type `Three`
 abbrev pub Stack : Type 0 → Type 0

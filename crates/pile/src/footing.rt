@@ -1,7 +1,8 @@
 // A pile by its ground model and its floors, and a ground model as a pile with no floor.
 ghost use Rattle.std.specs.Prelude.{◌≡◌};
-ghost use Rattle.pile.specs.Piles.{Laid, Piling};
-ghost use Rattle.pile.specs.Pushing.{grounding, laid_bare};
+ghost use Rattle.pilemodel.specs.Piles.{Laid, Piling};
+ghost use Rattle.pilemodel.specs.Raised.{grounding};
+ghost use Rattle.pilemodel.proofs.Pushing.{laid_bare};
 
 use model::{GroundModel, Outcomes, SiteModel, Sizes};
 

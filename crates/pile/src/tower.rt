@@ -1,7 +1,7 @@
 // Building a pile from a list of floors.
 ghost use Rattle.std.specs.Prelude.{◌≡◌, ℕ, suc, [], ◌∷◌, ◌++◌, List, drop, take};
 ghost use Rattle.pile.specs.declared.floor.Floor.{Floor as Slab};
-ghost use Rattle.pile.specs.Piles.{piled};
+ghost use Rattle.pilemodel.specs.Piles.{piled};
 ghost use Rattle.pile.specs.Floors.{floors_in, pile_of, slab_in, slabs_below};
 
 use crate::floor::Floor;

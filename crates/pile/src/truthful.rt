@@ -1,8 +1,8 @@
 // What is promised of every pile.
 ghost use Rattle.std.specs.Prelude.{◌≡◌, [], ◌∷◌};
 ghost use Rattle.layermodel.specs.Records.{MemoryTells, WishesShow, LabelsStay};
-ghost use Rattle.pile.specs.Piles.{place_on, piled, Keeps};
-ghost use Rattle.pile.specs.Telling.{BitsTell};
+ghost use Rattle.pilemodel.specs.Piles.{place_on, piled, Keeps};
+ghost use Rattle.pilemodel.specs.Telling.{BitsTell};
 
 use crate::footing::Pile;
 

@@ -1,7 +1,7 @@
 -- Paths correspond, from the laws of a pile and what writing out promises.
 use mathlib.Core.Path.{◌≡◌}
 use Rattle.model.proofs.Paths.{one_path_above}
-use Rattle.pile.specs.Piles.{piled, Piling, place_on, shown_on, Keeps}
+use Rattle.pilemodel.specs.Piles.{piled, Piling, place_on, shown_on, Keeps}
 use Rattle.writeout.specs.Tables.{Represents}
 use Rattle.promise.specs.Corresponding.{book_model, place_in, Corresponds}
 

@@ -13,7 +13,7 @@ use Rattle.promise.specs.Planning.{PlansAs, ReadyAs, plan_refusal}
 use Rattle.promise.specs.declared.causes.Unplanned.{Unplanned}
 use Rattle.promise.specs.declared.causes.Unplanned.TheVariants.{Refused, Memory}
 use Rattle.promise.specs.declared.plans.Tables.{Tables}
-use Rattle.weighing.specs.Weighings.{Weigh}
+use Rattle.weighmodel.specs.Weighings.{Weigh}
 use Rattle.writeout.proofs.Outcomes.{wrote}
 use Rattle.refusal.specs.declared.Refusal.{Refusal}
 use Rattle.writeout.specs.declared.Written.{Written}

@@ -2,8 +2,8 @@
 -- its type means, which is the same.
 use mathlib.Core.Path.{◌≡◌, subst, sym}
 use Rattle.model.specs.Models.{Model}
-use Rattle.pile.specs.Piles.{Piling, Laid}
-use Rattle.pile.proofs.Keeping.{laid_keeps}
+use Rattle.pilemodel.specs.Piles.{Piling, Laid}
+use Rattle.pilemodel.proofs.Keeping.{laid_keeps}
 use Rattle.writeout.specs.Tables.{Represents}
 use Rattle.promise.specs.Promises.{Promises}
 use Rattle.promise.proofs.Agreeing.{agree_on_pile, agree_in_book, stands_on_pile, stands_in_book}

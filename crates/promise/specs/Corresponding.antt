@@ -3,7 +3,7 @@
 use Rattle.std.specs.Prelude.{List, ◌≡◌, ℕ}
 use Rattle.model.specs.Histories.{Unfolds, OnePathAbove}
 use Rattle.model.specs.Models.{Model}
-use Rattle.pile.specs.Piles.{piled, Piling, place_on, shown_on}
+use Rattle.pilemodel.specs.Piles.{piled, Piling, place_on, shown_on}
 use Rattle.reach.specs.Search.{codes_of}
 use Rattle.writeout.specs.Copies.{by_origin, place_in_book}
 use Rattle.writeout.specs.Tables.{Writable, out_book}

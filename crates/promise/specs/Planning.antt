@@ -3,7 +3,7 @@
 use Rattle.std.specs.Prelude.{◌≡◌, ℕ, ◌+◌, ◌*◌, length, ℤ, ◌≤ℤ◌, Some, None, Option, Ok, Err, Result}
 use Rattle.std.specs.Option.{option_or}
 use Rattle.model.specs.Models.{Model}
-use Rattle.pile.specs.Piles.{Piling, shown_on}
+use Rattle.pilemodel.specs.Piles.{Piling, shown_on}
 use Rattle.planning.specs.Plans.{answer_of, worth_at, choice_at, Left, tabled, sizes_refusal}
 use Rattle.promise.specs.Corresponding.{book_model, place_in}
 use Rattle.promise.specs.declared.causes.Unplanned.{Unplanned}
@@ -16,7 +16,7 @@ use Rattle.refusal.specs.declared.Refusal.{Refusal}
 use Rattle.sitebook.specs.Contents.{contents}
 use Rattle.sitelayout.specs.Layout.{site_words}
 use Rattle.weighing.specs.Discounts.{discount_of}
-use Rattle.weighing.specs.Weighings.{Weigh, LawfulWeigh}
+use Rattle.weighmodel.specs.Weighings.{Weigh, LawfulWeigh}
 use Rattle.words.specs.Format.{file}
 use Rattle.worth.specs.Policies.{Policy, Admissible, earns, Best, planned}
 use Rattle.worth.specs.Worths.{worth_of}

@@ -1,5 +1,5 @@
 -- What holds of every pile, whatever is asked of it and whatever comes of it.
-use Rattle.pile.specs.Piles.{Piling}
+use Rattle.pilemodel.specs.Piles.{Piling}
 use Rattle.promise.specs.Corresponding.{Corresponds}
 use Rattle.promise.specs.Planning.{BestInBook}
 use Rattle.promise.specs.Walking.{AgreeInBook, AgreeOnPile, StandsInBook, StandsOnPile}

@@ -1,7 +1,7 @@
 -- Walking on a pile and on its written-out book beside the plan: the walker, who knows only the present state, and the reckoner, who
 -- keeps the whole record, agree.
 use Rattle.std.specs.Prelude.{◌≡◌, ℕ, ◌++◌, List, length, take, drop, IsSomeAnd, None, Option, Ok, Err, Result}
-use Rattle.pile.specs.Piles.{Piling, place_on, shown_on}
+use Rattle.pilemodel.specs.Piles.{Piling, place_on, shown_on}
 use Rattle.promise.specs.Corresponding.{book_model, place_in}
 use Rattle.promise.specs.declared.causes.Unplanned.{Unplanned}
 use Rattle.promise.specs.declared.plans.Plan.{Plan}

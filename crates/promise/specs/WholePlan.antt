@@ -3,7 +3,7 @@
 -- after the record of the crossing so far.
 use Rattle.std.specs.Prelude.{◌≡◌, ℕ, ◌-◌, ◌*◌, if◌then◌else◌, ◌&&◌, List, length, Some, None, Option, nat_le, nat_lt, vec_items}
 use Rattle.model.specs.Models.{Model}
-use Rattle.pile.specs.Piles.{Piling, shown_on}
+use Rattle.pilemodel.specs.Piles.{Piling, shown_on}
 use Rattle.planning.specs.Choices.{PicksLowest}
 use Rattle.planning.specs.Plans.{choice_at, HoldsTo, tabled}
 use Rattle.promise.specs.Corresponding.{Corresponds, book_model, place_in}
@@ -16,7 +16,7 @@ use Rattle.sitebook.specs.Contents.{contents}
 use Rattle.walk.specs.Reckoner.{Reckoner, begins, reckoned_after}
 use Rattle.walk.specs.Walker.{Walk, begun, reached}
 use Rattle.weighing.specs.Discounts.{discount_of}
-use Rattle.weighing.specs.Weighings.{Weigh}
+use Rattle.weighmodel.specs.Weighings.{Weigh}
 use Rattle.worth.specs.Policies.{Policy}
 use Rattle.worth.specs.Worths.{choice_of}
 use Rattle.writeout.specs.Tables.{Writable, out_book, word_count}

@@ -3,7 +3,7 @@ use lib.ListN.{length-replicate}
 use Rattle.planning.specs.Plans.{Filled, HoldsTo, answer_of, worth_at, choice_at, tabled}
 use Rattle.sitebook.specs.Contents.{contents}
 use Rattle.writeout.specs.Copies.{by_origin}
-use Rattle.pile.specs.Piles.{Piling}
+use Rattle.pilemodel.specs.Piles.{Piling}
 use Rattle.promise.specs.Corresponding.{book_model, place_in}
 use Rattle.promise.specs.Planning.{BestOn, PlansAs, start_worth}
 use Rattle.promise.specs.Promises.{Promises}

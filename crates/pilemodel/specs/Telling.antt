@@ -13,7 +13,7 @@ use Rattle.wishlayout.specs.declared.Wish.{Wish}
 use Rattle.wishlayout.specs.Wishes.{amount}
 use Rattle.layermodel.specs.Layered.{fits, under, memory, over}
 use Rattle.layermodel.specs.Records.{end_of}
-use Rattle.pile.specs.Piles.{Floor, bare, wishes, floor_over, piled, Piling}
+use Rattle.pilemodel.specs.Piles.{Floor, bare, wishes, floor_over, piled, Piling}
 
 -- the state of a model below a floor on it, and below several: divided by 65,536 once for each that is laid
 abbrev pub below_floor : Model → Floor → ℕ → ℕ

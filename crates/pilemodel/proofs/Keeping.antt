@@ -8,7 +8,7 @@ use Rattle.model.specs.Models.{Model, Lawful, Ground}
 use Rattle.layermodel.specs.Layered.{fits, layered}
 use Rattle.layermodel.specs.Records.{code_over, shown_over}
 use Rattle.layermodel.proofs.Unfolds.{layer_unfolds}
-use Rattle.pile.specs.Piles.{Floor, bare, wishes, floor_over, piled, Piling, piling, Place, on_ground, with_floor, with_floors, SoundFloor, SoundFloors, Laid, place_on, shown_on, Keeps}
+use Rattle.pilemodel.specs.Piles.{Floor, bare, wishes, floor_over, piled, Piling, piling, Place, on_ground, with_floor, with_floors, SoundFloor, SoundFloors, Laid, place_on, shown_on, Keeps}
 
 map_keeps : (h : List ℕ) (os : List Outcome) → map (along final h) os ≡ os
 map_keeps h os = (λ i. map (λ o. record { target = final-push h o.target i; weight = o.weight }) os) ∙ map-id os

@@ -25,10 +25,10 @@ use Rattle.layermodel.specs.Layered.{fits, under, memory, layered, over}
 use Rattle.layermodel.specs.Records.{trace_of, end_of, truths, memory_at, code_over, shown_over, tells, SoundBook}
 use Rattle.layermodel.proofs.Sizes.{bits_small}
 use Rattle.layermodel.proofs.Bits.{memory_tells, wishes_show, labels_stay}
-use Rattle.pile.specs.Piles.{Floor, bare, wishes, floor_over, piled, Piling, piling, Place, on_ground, with_floor, with_floors, SoundFloor, SoundFloors, Laid}
 use Rattle.layermodel.proofs.Unfolds.{layer_unfolds}
-use Rattle.pile.specs.Telling.{below_floor, state_below, memory_of_floor, masks_below, formula_at, Told, OneEarlier, wish_holds, FloorTells, BitsTell}
-use Rattle.pile.proofs.Keeping.{pile_keeps, laid_is}
+use Rattle.pilemodel.specs.Piles.{Floor, bare, wishes, floor_over, piled, Piling, piling, Place, on_ground, with_floor, with_floors, SoundFloor, SoundFloors, Laid}
+use Rattle.pilemodel.specs.Telling.{below_floor, state_below, memory_of_floor, masks_below, formula_at, Told, OneEarlier, wish_holds, FloorTells, BitsTell}
+use Rattle.pilemodel.proofs.Keeping.{pile_keeps, laid_is}
 
 -- floors on floors
 with_floors-append : (m : Model) (sh : Place) (fs gs : List Floor) → with_floors m sh (fs ++ gs) ≡ with_floors (piled m fs) (with_floors m sh fs) gs
