@@ -1,5 +1,5 @@
--- A formula about the past is a tree. A list of nodes writes formulas: the operands of a node number earlier nodes of the list, counted from 0.
--- `formulas` reads the list from left to right: the tree of each node is made from the trees before it.
+-- A formula about the past is a tree. A list of nodes writes formulas: the operands of a node number earlier nodes of the list,
+-- counted from 0. `formulas` reads the list from left to right: the tree of each node is made from the trees before it.
 use Rattle.std.specs.Prelude.{ℕ, suc, Bool, true, ◌&&◌, List, [], ◌∷◌, ◌++◌, nat_lt, slice_index_or}
 use Rattle.formula.specs.declared.Node.{Node}
 use Rattle.formula.specs.declared.Node.TheVariants.{Label, True, Not, And, Or, Previous, Since, Always, Once}

@@ -1,5 +1,6 @@
--- Of the nodes that are used, some are remembered from step to step by an item. The held item of a node is kept if it is a since or a once, or the operand
--- of a previous that is used; its failed item is kept if it is an always. Items are ordered by node number, held before failed.
+-- Of the nodes that are used, some are remembered from step to step by an item. The held item of a node is kept if it is a since
+-- or a once, or the operand of a previous that is used; its failed item is kept if it is an always. Items are ordered by node
+-- number, held before failed.
 use Rattle.std.specs.Prelude.{◌≡◌, ℕ, zero, suc, ◌+◌, ◌*◌, ◌<◌, ◌≤◌, Bool, true, false, if◌then◌else◌, IsTrue, ◌&&◌, ◌||◌, ◌⊎◌, List, [], ◌∷◌, ◌++◌, map, length, Some, None, Option, ◌==◌, slice_index, slice_index_or, Contains}
 use Rattle.bounded.specs.Listed.{listed}
 use Rattle.bounded.specs.declared.Bounded.{Bounded}
@@ -8,7 +9,7 @@ use Rattle.formula.specs.declared.Node.TheVariants.{True, Previous, Since, Alway
 use Rattle.formula.specs.declared.Item.{Item}
 use Rattle.formula.specs.declared.Item.TheVariants.{Held, Failed}
 use Rattle.formula.specs.Merging.{nodes_of, numbers_of}
-use Rattle.formula.specs.Resting.{resting}
+use Rattle.formula.specs.Resting.{node_at, used_at, resting}
 
 -- a since or a once
 abbrev pub lasting : Node → Bool
@@ -24,14 +25,6 @@ is_always n = false
 abbrev pub looks_back : ℕ → Node → Bool
 looks_back i (Previous a) = a == i
 looks_back i n = false
-
--- node i
-abbrev pub node_at : List Node → ℕ → Node
-node_at nodes i = slice_index_or nodes i True
-
--- node i is used
-abbrev pub used_at : List Bool → ℕ → Bool
-used_at used i = slice_index_or used i false
 
 -- some used node below k is the previous of i
 abbrev pub back_below : List Node → List Bool → ℕ → ℕ → Bool
@@ -69,11 +62,16 @@ Remembered nodes used i =
 
 -- which items a list holds, and in which order: no item comes twice
 pub record Selected (nodes : List Node) (used : List Bool) (items : List Item) : Type 0 where
-  pub held_kept : (i : ℕ) → i < length nodes → IsTrue (used_at used i) → Remembered nodes used i → Contains items (Held i)
-  pub held_only : (i : ℕ) → Contains items (Held i) → (i < length nodes) × IsTrue (used_at used i) × Remembered nodes used i
-  pub failed_kept : (i : ℕ) → i < length nodes → IsTrue (used_at used i) → IsTrue (is_always (node_at nodes i)) → Contains items (Failed i)
-  pub failed_only : (i : ℕ) → Contains items (Failed i) → (i < length nodes) × IsTrue (used_at used i) × IsTrue (is_always (node_at nodes i))
-  pub rising : (j k : ℕ) (d : Item) → j < k → k < length items → rank (slice_index_or items j d) < rank (slice_index_or items k d)
+  pub held_kept : (i : ℕ) → i < length nodes → IsTrue (used_at used i) → Remembered nodes used i
+      → Contains items (Held i)
+  pub held_only : (i : ℕ) → Contains items (Held i)
+      → (i < length nodes) × IsTrue (used_at used i) × Remembered nodes used i
+  pub failed_kept : (i : ℕ) → i < length nodes → IsTrue (used_at used i) → IsTrue (is_always (node_at nodes i))
+      → Contains items (Failed i)
+  pub failed_only : (i : ℕ) → Contains items (Failed i)
+      → (i < length nodes) × IsTrue (used_at used i) × IsTrue (is_always (node_at nodes i))
+  pub rising : (j k : ℕ) (d : Item) → j < k → k < length items
+      → rank (slice_index_or items j d) < rank (slice_index_or items k d)
 
 -- the kept items of at most 128 nodes; or there are more nodes, or more items than the list can hold
 abbrev pub ListsItems : {most : ℕ} → List Node → List Bool → Option (Bounded Item most) → Type 0

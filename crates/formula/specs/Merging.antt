@@ -7,8 +7,9 @@ use Rattle.formula.specs.declared.Node.{Node}
 use Rattle.formula.specs.declared.Node.TheVariants.{Label, True, Not, And, Or, Previous, Since, Always, Once}
 use Rattle.formula.specs.declared.merging.Merged.{Merged}
 use Rattle.formula.specs.Formulas.{truth, formulas, earlier}
+use Rattle.formula.specs.Resting.{operands}
 
--- what kind a node is, and its fields
+-- what kind a node is, and its fields: a label's number, or the operands; 0 where there is none
 abbrev pub node_kind : Node → ℕ
 node_kind (Label p) = 0
 node_kind True = 1
@@ -20,25 +21,16 @@ node_kind (Since a b) = 6
 node_kind (Always a) = 7
 node_kind (Once a) = 8
 
-abbrev pub first_of : Node → ℕ
-first_of (Label p) = p
-first_of True = 0
-first_of (Not a) = a
-first_of (And a b) = a
-first_of (Or a b) = a
-first_of (Previous a) = a
-first_of (Since a b) = a
-first_of (Always a) = a
-first_of (Once a) = a
+abbrev pub first_field : Node → ℕ
+first_field (Label p) = p
+first_field n = slice_index (operands n) 0
 
-abbrev pub second_of : Node → ℕ
-second_of (And a b) = b
-second_of (Or a b) = b
-second_of (Since a b) = b
-second_of n = 0
+abbrev pub second_field : Node → ℕ
+second_field n = slice_index (operands n) 1
 
+-- the same kind and fields
 abbrev pub same_node : Node → Node → Bool
-same_node n m = node_kind n == node_kind m && (first_of n == first_of m && second_of n == second_of m)
+same_node n m = node_kind n == node_kind m && (first_field n == first_field m && second_field n == second_field m)
 
 -- the node with its operands through a list of numbers
 abbrev pub renumbered : List ℕ → Node → Node
@@ -80,9 +72,10 @@ abbrev pub numbers_of : List Node → List ℕ
 numbers_of ws = (merge_all ws).numbers
 
 -- what merging keeps of words whose operands number earlier words: the formulas, each once, in the order in which they first come
-pub record Faithful (ws : List Node) : Type 0 where
+pub record KeepsFormulas (ws : List Node) : Type 0 where
   pub formulas_kept : Kept (formulas ws) (formulas (nodes_of ws))
-  pub same_formula : (i : ℕ) → i < length ws → slice_index_or (formulas (nodes_of ws)) (slice_index (numbers_of ws) i) truth ≡ slice_index_or (formulas ws) i truth
+  pub same_formula : (i : ℕ) → i < length ws
+      → slice_index_or (formulas (nodes_of ws)) (slice_index (numbers_of ws) i) truth ≡ slice_index_or (formulas ws) i truth
   pub still_earlier : IsTrue (earlier (nodes_of ws))
   pub all_numbered : length (numbers_of ws) ≡ length ws
   pub in_range : (i : ℕ) → i < length ws → slice_index (numbers_of ws) i < length (nodes_of ws)

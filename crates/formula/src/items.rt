@@ -29,8 +29,8 @@ fn look_back(back: &mut [bool], node: Node)
     }
 }
 
-// For each number, whether a previous that is used has the node of that number as its operand. Like the marks it is a table by number beside
-// the nodes: those are lent, and one list of all three would copy them.
+// For each number, whether a previous that is used has the node of that number as its operand. Like the marks it is a table by
+// number beside the nodes: those are lent, and one list of all three would copy them.
 fn looked_back(nodes: &[Node], marks: &[bool]) -> [bool; NODES]
     ensures { (k : ℕ) → k < 128
         → slice_index_or result k false ≡ back_below nodes.now marks.now (length nodes.now) k }
@@ -44,8 +44,8 @@ fn looked_back(nodes: &[Node], marks: &[bool]) -> [bool; NODES]
     back
 }
 
-/// The items that are kept of the marked nodes, by node number, held before failed; a node past the marks is not marked. There is no answer for
-/// more than `NODES` nodes, or where more than `MOST` items are kept.
+/// The items that are kept of the marked nodes, by node number, held before failed; a node past the marks is not marked. There is
+/// no answer for more than `NODES` nodes, or where more than `MOST` items are kept.
 #[tactic(auto, using(crate::proofs::Chosen::selected))]
 pub fn keep_items<const MOST: usize>(nodes: &[Node], marks: &[bool]) -> Option<Bounded<Item, MOST>>
     ensures answer { ListsItems nodes.now marks.now result }

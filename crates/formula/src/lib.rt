@@ -40,10 +40,10 @@ pub enum Node {
 // A node's operands make the number that its bucket comes of; nodes with few operands in common mostly fall apart.
 // `mark_operands` matches on them too: there places are marked, here a number is made, so that one list of them would serve neither.
 impl Key for Node {
-    ghost use Rattle.formula.specs.Merging.{first_of, second_of};
+    ghost use Rattle.formula.specs.Merging.{first_field, second_field};
     ghost use Rattle.std.proofs.Common.{rules, ◌+◌, ◌*◌};
 
-    ghost bucket = { λ node. first_of node + 256 * second_of node };
+    ghost bucket = { λ node. first_field node + 256 * second_field node };
 
     ghost shares_bucket = { Prim.search rules };
 

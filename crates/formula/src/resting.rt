@@ -50,8 +50,8 @@ fn mark_below(marks: &mut [bool], nodes: &[Node])
     }
 }
 
-/// For each node, whether some root rests on it, the roots being numbers of nodes; the places past the last node are not marked. There is no
-/// answer for more than `NODES` nodes.
+/// For each node, whether some root rests on it, the roots being numbers of nodes; the places past the last node are not marked.
+/// There is no answer for more than `NODES` nodes.
 #[tactic(auto, using(crate::proofs::Marks::exact))]
 pub fn mark_resting(nodes: &[Node], roots: &[u8]) -> Option<[bool; NODES]>
     ensures marked { Rested nodes.now roots.now result }

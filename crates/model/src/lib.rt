@@ -3,7 +3,7 @@
 #![tactic(auto)]
 
 ghost use Rattle.bounded.specs.Listed.{listed};
-ghost use Rattle.std.specs.Prelude.{◌≡◌, ℕ, ◌≤◌, true, IfSome, nat_lt};
+ghost use Rattle.std.specs.Prelude.{◌≡◌, ℕ, ◌≤◌, IfSome, IsTrue, nat_lt};
 ghost use Rattle.model.specs.Models.{Model, Lawful, Ground, NumberedBy, target_at};
 
 use bounded::Bounded;
@@ -108,7 +108,8 @@ pub trait Numbered: SiteModel {
 // The target of outcome `j` of an action in a state, or none where there is no such outcome.
 pub fn reachable_at<M: SiteModel>(m: &M, s: u64, a: u32, j: usize) -> Option<u64>
     ensures target { result ≡ target_at (M.SiteModel.meaning m.now) s a j }
-    ensures state { IfSome result (λ t. (M.SiteModel.meaning m.now).state t ≡ true) }
+    ensures state { IfSome result
+        (λ t. IsTrue ((M.SiteModel.meaning m.now).state t)) }
 {
     Some(m.outcomes(s, a).get(j)?.target)
 }

@@ -5,4 +5,4 @@ pub mod Agreeing
 mod Preparing
 mod Whole
 mod Advised
-mod Promising
+pub mod Promising

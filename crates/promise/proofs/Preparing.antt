@@ -6,7 +6,7 @@ use Rattle.std.specs.Option.{option_or}
 use Rattle.std.specs.Result.{IsErrAnd}
 use Rattle.model.specs.Models.{Model}
 use Rattle.planning.specs.Plans.{sizes_refusal}
-use Rattle.planning.proofs.Accepting.{refused_by, unrefused}
+use Rattle.refusal.proofs.Rows.{refused_by, unrefused}
 use Rattle.promise.specs.Causes.{OutOfMemory}
 use Rattle.promise.specs.Corresponding.{book_model}
 use Rattle.promise.specs.Planning.{PlansAs, ReadyAs, plan_refusal}

@@ -48,7 +48,7 @@ module _ {K : Type 0} (Same : K → K → Type 0) (is : Sameness Same) where
       let had = at_from_Contains b (get_or a n d) (held_both ks a b ka kb n d l) in
       ⊎_elim
       (λ (sooner : had.0 < n).
-      absurd (ka.once had.0 n d (sooner, l) (subst (Same (get_or a had.0 d)) (same had.0 sooner ∙ had.2 d) (is.itself (get_or a had.0 d)))))
+      absurd (ka.once had.0 n d sooner l (subst (Same (get_or a had.0 d)) (same had.0 sooner ∙ had.2 d) (is.itself (get_or a had.0 d)))))
       (λ (le : n ≤ had.0). (had.0, le, had.1, had.2 d))
       (cases_lt had.0 n)
 

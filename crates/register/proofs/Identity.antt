@@ -38,12 +38,12 @@ module _ {K : Type 0} (eq : K → K → Bool) (is : IsIdentity eq) where
   -- a list with no key twice gives each key its own place
   pub place_of-get_or : (ks : List K) (i : ℕ) (d : K) → Distinct ks → i < length ks → place_of eq (get_or ks i d) ks ≡ i
   place_of-get_or ks i d apart l =
-      place_of_equal eq identity_equivalence (get_or ks i d) ks i d (λ i j d h e. apart i j d h (is.only (get_or ks i d) (get_or ks j d) e)) l (is.self (get_or ks i d))
+      place_of_equal eq identity_equivalence (get_or ks i d) ks i d (λ i j d h m e. apart i j d h m (is.only (get_or ks i d) (get_or ks j d) e)) l (is.self (get_or ks i d))
 
   -- what is kept by the test is kept as it is
   kept_identical : (ks held : List K) → KeptBy (Equal eq) ks held → Kept ks held
   kept_identical ks held kept = record {
-    once = λ i j d l e. kept.once i j d l (from_identical (get_or held i d) (get_or held j d) e);
+    once = λ i j d l m e. kept.once i j d l m (from_identical (get_or held i d) (get_or held j d) e);
     only = kept.only;
     every = λ x h. let had = kept.every x h in (had.0, had.1, is.only x had.0 had.2);
     first = λ j q d l m e. kept.first j q d l m (from_identical (get_or ks q d) (get_or held j d) e);

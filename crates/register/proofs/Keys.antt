@@ -81,12 +81,12 @@ placed_new eq E k ks e y had same =
     both_ways (eq k y) (subst (λ x. eq k x ≡ false) (there.2 k) (place_of_fails eq k ks there.0 k (omega (arith, there.1)))) (E.symm k y ∙ same)
 
 pub new_apart : {K : Type 0} (Same : K → K → Type 0) (k : K) (ks : List K) → DistinctBy Same ks → ((y : K) → Contains ks y → Same y k → ⊥) → DistinctBy Same (ks ++ (k ∷ []))
-new_apart Same k ks apart new i j d (l, m) same =
+new_apart Same k ks apart new i j d l m same =
     let i-in : i < length ks = omega (arith, length_push ks k) in
     let at_i = get_or_append_left ks (k ∷ []) d i i-in in
     let here = subst (λ x. Same x (get_or (ks ++ (k ∷ [])) j d)) at_i same in
     ⊎_elim
-    (λ (j-in : j < length ks). apart i j d (l, j-in) (subst (Same (get_or ks i d)) (get_or_append_left ks (k ∷ []) d j j-in) here))
+    (λ (j-in : j < length ks). apart i j d l j-in (subst (Same (get_or ks i d)) (get_or_append_left ks (k ∷ []) d j j-in) here))
     (λ (past : length ks ≤ j).
     let last : length ks ≡ j = omega (arith, length_push ks k) in
     new (get_or ks i d) (Contains-get_or ks i d i-in) (subst (Same (get_or ks i d)) (get_or_push ks k d j last) here))
@@ -129,7 +129,7 @@ place_of_equal eq E k ks i d apart l same =
     ⊎_elim
     (λ (sooner : p < i).
     let at : eq k (get_or ks p d) ≡ true = place_of_holds eq k ks d (omega arith) in
-    absurd (apart p i d (sooner, l) (sym (E.congr k (get_or ks p d) (get_or ks i d) at) ∙ same)))
+    absurd (apart p i d sooner l (sym (E.congr k (get_or ks p d) (get_or ks i d) at) ∙ same)))
     (λ (upto : i ≤ p). place_of_here eq k ks i d upto l same)
     (cases_lt p i)
 

@@ -100,7 +100,7 @@ module _ {K : Type 0} (Same : K → K → Type 0) (is : Sameness Same) where
 
 pub kept_none : {K : Type 0} (Same : K → K → Type 0) → KeptBy Same [] []
 kept_none Same = record {
-  once = λ i j d l. absurd (omega arith);
+  once = λ i j d l m. absurd (omega arith);
   only = λ x h. h;
   every = λ x h. absurd (omega (arith, h.1));
   first = λ j q d l. absurd (omega arith);

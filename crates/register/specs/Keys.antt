@@ -1,7 +1,7 @@
--- A register keeps, of keys that are equal, the first, in the order of entry: entering a key puts it at the end of the list, unless one that is equal to it stands there.
--- Which keys are equal is told by a test of two keys, the key's own `==`. The place of a key is where the first that is equal to it stands, counted
--- from 0, or the list's length where none does.
-use Rattle.std.specs.Prelude.{◌≡◌, ℕ, suc, ◌+◌, ◌<◌, ◌≤◌, Bool, if◌then◌else◌, IsTrue, IsFalse, List, [], ◌∷◌, ◌++◌, length, take, drop, Some, None, Option, nat_lt, slice_index_or, Contains}
+-- A register keeps, of keys that are equal, the first, in the order of entry: entering a key puts it at the end of the list,
+-- unless one that is equal to it stands there. Which keys are equal is told by a test of two keys, the key's own `==`. The place
+-- of a key is where the first that is equal to it stands, counted from 0, or the list's length where none does.
+use Rattle.std.specs.Prelude.{◌≡◌, ℕ, suc, ◌+◌, ◌<◌, ◌≤◌, Bool, if◌then◌else◌, IsTrue, IsFalse, List, [], ◌∷◌, ◌++◌, length, take, drop, Some, None, Option, nat_lt, slice_index_or, AllPairs, Contains}
 
 -- equal keys have one number, that of their bucket: the law of a key
 abbrev pub SharesBucket : {K : Type 0} → (K → K → Bool) → (K → ℕ) → Type 0
@@ -17,7 +17,7 @@ Identical x y = x ≡ y
 
 -- of the keys at two places no two are the same
 abbrev pub DistinctBy : {K : Type 0} → (K → K → Type 0) → List K → Type 0
-DistinctBy {K} Same ks = (i j : ℕ) (d : K) → (i < j) × (j < length ks) → ¬ Same (slice_index_or ks i d) (slice_index_or ks j d)
+DistinctBy Same ks = AllPairs (λ x y. ¬ Same x y) ks
 
 -- no value twice
 abbrev pub Distinct : {K : Type 0} → List K → Type 0
@@ -37,7 +37,8 @@ abbrev pub enter_all : {K : Type 0} → (K → K → Bool) → List K → List K
 enter_all eq kept [] = kept
 enter_all eq kept (k ∷ ks) = enter_all eq (enter eq k kept) ks
 
--- what a register holds after the keys of ks came one after another: of those that are the same the first, and no other, in the order in which they came
+-- what a register holds after the keys of ks came one after another: of those that are the same the first, and no other, in the
+-- order in which they came
 pub record KeptBy {K : Type 0} (Same : K → K → Type 0) (ks kept : List K) : Type 0 where
   pub once : DistinctBy Same kept
   pub only : (x : K) → Contains kept x → Contains ks x
@@ -68,7 +69,8 @@ abbrev pub Stands : {K : Type 0} → List K → ℕ → Option K → Type 0
 Stands {K} ks p (Some k) = (p < length ks) × ((d : K) → k ≡ slice_index_or ks p d)
 Stands ks p None = length ks ≤ p
 
--- the answer to how many different keys there are in ks, counted in a table: they stand first in it, and the rest is as it was; or they do not fit, and those that come first fill it
+-- the answer to how many different keys there are in ks, counted in a table: they stand first in it, and the rest is as it was; or
+-- they do not fit, and those that come first fill it
 abbrev pub Counted : {K : Type 0} → (K → K → Bool) → List K → List K → List K → Option ℕ → Type 0
 Counted eq ks before after (Some n) =
     KeptBy (Equal eq) ks (take n after)

@@ -40,7 +40,8 @@ pub struct Register<'a, K: Key> {
     ghost chained: { Chained chains.heads chains.earlier (buckets K.Key.bucket keys.now) (min len 4096) },
 }
 
-// What the table holds after is each function's own to say: all as it was, or all after the keys; that it is the lent one, all of them say.
+// What the table holds after is each function's own to say: all as it was, or all after the keys; that it is the lent one, all of
+// them say.
 impl<'a, K: Key> Register<'a, K> {
     ghost use Rattle.register.specs.Keys.{Entered, Found, Placed, Stands};
     ghost use Rattle.register.specs.Register.{keys_of};
@@ -69,8 +70,8 @@ impl<'a, K: Key> Register<'a, K> {
         self.len = 0;
     }
 
-    /// Enters the key, unless one that is equal to it is there, and says where it stands, counted from 0. A new key is refused with `None`
-    /// where the table is full; then the register is as it was.
+    /// Enters the key, unless one that is equal to it is there, and says where it stands, counted from 0. A new key is refused
+    /// with `None` where the table is full; then the register is as it was.
     // The table's length is asked by hand, since the contract of a slice's `get_mut` does not say what the table becomes.
     pub fn enter(&mut self, key: K) -> Option<usize>
         ensures answer { Entered K.PartialEq.eq key (length self.old.keys.now)

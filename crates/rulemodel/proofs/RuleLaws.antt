@@ -97,8 +97,8 @@ targets_apart s es j k d hj hk e =
     elim (cases_order j k) [
       | inl same ↦ same
       | inr other ↦ elim other [
-        | inl less ↦ absurd (apart j k d.target (less, omega arith) (at_j ∙ e ∙ sym at-k))
-        | inr more ↦ absurd (apart k j d.target (more, omega arith) (at-k ∙ sym e ∙ sym at_j))
+        | inl less ↦ absurd (apart j k d.target less (omega arith) (at_j ∙ e ∙ sym at-k))
+        | inr more ↦ absurd (apart k j d.target more (omega arith) (at-k ∙ sym e ∙ sym at_j))
       ]
     ]
 

@@ -1,8 +1,8 @@
--- What planning on a pile m over the ground model g with the floors fs comes to, in tables that hold the largest plan: the plan, whole; or
+-- What planning on a pile comes to, in tables that hold the largest plan: the plan, whole; or
 -- more states are reachable than a book holds; or else the horizon has more slots than a plan. Memory may run out only where neither is so.
-use Rattle.std.specs.Prelude.{◌≡◌, ⊤, ◌⊎◌, ℕ, ◌<◌, ◌≤◌, List, Ok, Err, Result}
+use Rattle.std.specs.Prelude.{◌≡◌, ⊤, ◌⊎◌, ℕ, ◌<◌, ◌≤◌, Ok, Err, Result}
 use Rattle.model.specs.Models.{Model}
-use Rattle.pile.specs.Piles.{Floor}
+use Rattle.pile.specs.Piles.{Piling}
 use Rattle.promise.specs.WholePlan.{IsPlanOf}
 use Rattle.promise.specs.declared.causes.Unplanned.{Unplanned}
 use Rattle.promise.specs.declared.causes.Unplanned.TheVariants.{Refused, Memory}
@@ -22,14 +22,16 @@ weigh_of Worst = worst
 
 -- why a plan of so many slots is refused: too many states come before too many slots
 abbrev pub RefusedFor : Model → ℕ → Refusal → Type 0
-RefusedFor m horizon r = ((r ≡ TooManyStates) × MoreThan m 4096) ⊎ ((r ≡ HorizonTooLong) × (Writable m × (12 < horizon)))
+RefusedFor m horizon r =
+    ((r ≡ TooManyStates) × MoreThan m 4096)
+    ⊎ ((r ≡ HorizonTooLong) × (Writable m × (12 < horizon)))
 
 -- the answer of the test that comes before anything is allocated
 abbrev pub Surveyed : Model → ℕ → Result ⊤ Refusal → Type 0
 Surveyed m horizon (Ok u) = Writable m × (horizon ≤ 12)
 Surveyed m horizon (Err r) = RefusedFor m horizon r
 
-abbrev pub PlansOr : Weigh → Model → List Floor → Model → ℕ → Result Plan Unplanned → Type 0
-PlansOr w g fs m horizon (Ok p) = IsPlanOf w g fs m horizon p
-PlansOr w g fs m horizon (Err (Refused r)) = RefusedFor m horizon r
-PlansOr w g fs m horizon (Err (Memory e)) = Writable m × (horizon ≤ 12)
+abbrev pub PlansOr : Weigh → Piling → ℕ → Result Plan Unplanned → Type 0
+PlansOr w pile horizon (Ok p) = IsPlanOf w pile horizon p
+PlansOr w pile horizon (Err (Refused r)) = RefusedFor pile.model horizon r
+PlansOr w pile horizon (Err (Memory e)) = Writable pile.model × (horizon ≤ 12)

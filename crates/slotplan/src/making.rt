@@ -56,8 +56,7 @@ fn planned<P: Pile, W: Weighing>(
     weighing: &W,
     horizon: usize,
 ) -> Result<Plan, Unplanned>
-    ensures { PlansOr (W.meaning weighing.now) (P.Pile.base pile.now) (P.Pile.floors pile.now)
-        (P.SiteModel.meaning pile.now) horizon result }
+    ensures { PlansOr (W.meaning weighing.now) (P.Pile.piling pile.now) horizon result }
 {
     survey(pile, horizon)?;
     let mut room = Room::new(heap)?;
@@ -77,8 +76,7 @@ pub fn plan_by<P: Pile>(
     weighing: WeighBy,
     horizon: usize,
 ) -> Result<Plan, Unplanned>
-    ensures { PlansOr (weigh_of weighing) (P.Pile.base pile.now) (P.Pile.floors pile.now)
-        (P.SiteModel.meaning pile.now) horizon result }
+    ensures { PlansOr (weigh_of weighing) (P.Pile.piling pile.now) horizon result }
 {
     match weighing {
         WeighBy::Mean => planned(heap, pile, &Mean, horizon),

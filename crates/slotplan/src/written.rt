@@ -1,5 +1,5 @@
 // A pile that is written out, in memory.
-ghost use Rattle.slotplan.specs.Writing.{Holds, StatesChecked};
+ghost use Rattle.slotplan.specs.Writing.{IsWrittenOut, StatesChecked};
 ghost use Rattle.std.specs.Prelude.{IfOk, OnErr};
 ghost use Rattle.writeout.specs.Tables.{Writable};
 
@@ -35,7 +35,7 @@ pub(crate) fn check_states<P: Pile>(pile: &P) -> Result<(), Refusal>
 
 // Writes the pile out into tables that hold the largest book. Memory may run out only where the pile can be written out.
 pub fn written_out<P: Pile>(heap: Global, pile: &P) -> Result<Result<Book, Refusal>, AllocError>
-    ensures holds { IfOk result (Holds (P.SiteModel.meaning pile.now)) }
+    ensures holds { IfOk result (IsWrittenOut (P.SiteModel.meaning pile.now)) }
     ensures memory { OnErr result (Writable (P.SiteModel.meaning pile.now)) }
 {
     if let Err(refusal) = check_states(pile) {

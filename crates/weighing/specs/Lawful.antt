@@ -1,5 +1,5 @@
--- Both weighings are lawful: what they join is held, and raising a value never lowers what is joined. The code of a weighing cites its law, so
--- the law stands here with the lemmas that it needs; what else is known of held values is in proofs/.
+-- Both weighings are lawful: what they join is held, and raising a value never lowers what is joined. The code of a weighing cites
+-- its law, so the law stands here with the lemmas that it needs; what else is known of held values is in proofs/.
 use Rattle.std.specs.Prelude.{◌≡◌, ℕ, ◌+◌, ◌*◌, ◌≤◌, min, ℤ, pos, ◌+ℤ◌, ◌*ℤ◌, ◌≤ℤ◌}
 use Rattle.std.proofs.Common.{mul-le-mul_left, mul-add, arith}
 use borrow.Author.Differences.{up, down}
@@ -12,10 +12,10 @@ use Rattle.weighing.specs.Weighings.{held, Within, LawfulWeigh, mean, worst}
 pub held_within : (x : ℤ) → Within (held x)
 held_within x = (omega (arith, ints, clamps), omega (arith, ints, clamps))
 
-held_same : (x : ℤ) → Within x → held x ≡ x
+pub held_same : (x : ℤ) → Within x → held x ≡ x
 held_same x w = omega (arith, ints, clamps)
 
-held_twice : (x : ℤ) → held (held x) ≡ held x
+pub held_twice : (x : ℤ) → held (held x) ≡ held x
 held_twice x = held_same (held x) (held_within x)
 
 pub held_raises : (x y : ℤ) → x ≤ℤ y → held x ≤ℤ held y
@@ -24,13 +24,13 @@ held_raises x y h = omega (arith, ints, clamps)
 pub add_raises : (x y u v : ℤ) → x ≤ℤ y → u ≤ℤ v → (x +ℤ u) ≤ℤ (y +ℤ v)
 add_raises x y u v h k = omega (arith, ints)
 
-min_raises : (x y u v : ℤ) → x ≤ℤ y → u ≤ℤ v → int_min x u ≤ℤ int_min y v
+pub min_raises : (x y u v : ℤ) → x ≤ℤ y → u ≤ℤ v → int_min x u ≤ℤ int_min y v
 min_raises x y u v h k = omega (arith, ints, clamps)
 
-min_within : (x y : ℤ) → Within x → Within y → Within (int_min x y)
+pub min_within : (x y : ℤ) → Within x → Within y → Within (int_min x y)
 min_within x y h k = (omega (arith, ints, clamps), omega (arith, ints, clamps))
 
-times_raises : (k : ℕ) (u v : ℤ) → u ≤ℤ v → (pos k *ℤ u) ≤ℤ (pos k *ℤ v)
+pub times_raises : (k : ℕ) (u v : ℤ) → u ≤ℤ v → (pos k *ℤ u) ≤ℤ (pos k *ℤ v)
 times_raises k u v h =
     let n : up u + down v ≤ up v + down u = omega (arith, ints) in
     let m : k * (up u + down v) ≤ k * (up v + down u) = mul-le-mul_left k n in

@@ -1,5 +1,6 @@
--- When a refusal is right. Of a format there is told what is known of a draft (`Good`), the words that it was read from (`written`), whether
--- the end word may come after it (`may_end`), which tests a word after it passes (`passes`), and which the whole does (`closes`).
+-- When a refusal is right. Of a format there is told what is known of a draft (`Good`), the words that it was read from
+-- (`written`), whether the end word may come after it (`may_end`), which tests a word after it passes (`passes`), and which the
+-- whole does (`closes`).
 use Rattle.std.specs.Prelude.{◌≡◌, ◌≢◌, ◌⊎◌, ℕ, ◌+◌, ◌*◌, ◌<◌, ◌≤◌, Bool, true, false, IsTrue, IsFalse, not, List, [], ◌∷◌, length, take, find, Some, None, Option, nat_lt}
 use Rattle.refusal.specs.declared.Refusal.{Refusal}
 use Rattle.refusal.specs.declared.Refusal.TheVariants.{CutOff, WrongKind, UnusedBit, OutOfRange, WrongEnd, WrongTotal, NotRising, NoWait, SwitchTwice, TooManyItems}
@@ -65,7 +66,8 @@ Least {S} f Good written passes =
 -- a word that is read passes them all
 abbrev pub PassesAll : {S : Type 0} → (S → Type 0) → (S → List ℕ) → (S → ℕ → Refusal → Bool) → Type 0
 PassesAll {S} Good written passes =
-    (bytes : List ℕ) (p : ℕ) (s t : S) → DraftOf Good written bytes p s → DraftOf Good written bytes (p + 1) t → first_failing word_tests (passes s (word_at bytes p)) ≡ None
+    (bytes : List ℕ) (p : ℕ) (s t : S) → DraftOf Good written bytes p s → DraftOf Good written bytes (p + 1) t
+    → first_failing word_tests (passes s (word_at bytes p)) ≡ None
 
 -- CutOff: the next word is not there whole
 abbrev pub CutsOff : {S B : Type 0} → Format S B → Type 0
@@ -77,7 +79,8 @@ EndsWrong {S} f Good written may_end =
     (bytes : List ℕ) (p : ℕ) (s : S) → reading f bytes ≡ stop WrongEnd p → DraftOf Good written bytes p s
     → IsTrue (may_end s) × (kind (word_at bytes p) ≡ 15) × ((word_at bytes p ≢ end_word p) ⊎ (4 * (p + 1) < length bytes))
 
--- the whole is refused at an end word that may come and is right, with nothing after it; the refusal is the first test that the whole fails
+-- the whole is refused at an end word that may come and is right, with nothing after it; the refusal is the first test that the
+-- whole fails
 abbrev pub BookRefused : {S B : Type 0} → Format S B → (S → Type 0) → (S → List ℕ) → (S → Bool) → (S → Refusal → Bool) → Type 0
 BookRefused {S} f Good written may_end closes =
     (bytes : List ℕ) (r : Refusal) (p : ℕ) (s : S) → reading f bytes ≡ stop r p → IsTrue (of_book r) → DraftOf Good written bytes p s
@@ -89,12 +92,15 @@ goes_on bytes p = nat_lt (4 * (p + 1)) (length bytes)
 
 -- two files that agree through the word that is refused are refused alike
 abbrev pub Alike : {S B : Type 0} → Format S B → Type 0
-Alike f = (a b : List ℕ) (r : Refusal) (p : ℕ) → reading f a ≡ stop r p → IsFalse (at_end r) → take (4 * (p + 1)) a ≡ take (4 * (p + 1)) b → reading f b ≡ stop r p
+Alike f =
+    (a b : List ℕ) (r : Refusal) (p : ℕ) → reading f a ≡ stop r p → IsFalse (at_end r) → take (4 * (p + 1)) a ≡ take (4 * (p + 1)) b
+    → reading f b ≡ stop r p
 
 -- at the end too, where bytes follow in both or in neither
 abbrev pub AlikeAtEnd : {S B : Type 0} → Format S B → Type 0
 AlikeAtEnd f =
-    (a b : List ℕ) (r : Refusal) (p : ℕ) → reading f a ≡ stop r p → goes_on a p ≡ goes_on b p → take (4 * (p + 1)) a ≡ take (4 * (p + 1)) b → reading f b ≡ stop r p
+    (a b : List ℕ) (r : Refusal) (p : ℕ) → reading f a ≡ stop r p → goes_on a p ≡ goes_on b p → take (4 * (p + 1)) a ≡ take (4 * (p + 1)) b
+    → reading f b ≡ stop r p
 
 -- the laws of a reader's refusals
 pub record RefusesRightly {S B : Type 0} (f : Format S B) (Good : S → Type 0) (written : S → List ℕ) (may_end : S → Bool) (passes : S → ℕ → Refusal → Bool) (closes : S → Refusal → Bool) : Type 0 where

@@ -2,7 +2,7 @@
 
 #![tactic(auto)]
 
-ghost use Rattle.std.specs.Prelude.{◌≡◌, ℕ, ◌+◌, ◌*◌, ◌/◌, ◌%◌, ◌^◌, ◌<◌, ◌≤◌, ◌&&◌, length, drop, MatchOption, ◌==◌, nat_lt};
+ghost use Rattle.std.specs.Prelude.{◌≡◌, ◌%◌, ◌^◌, ◌<◌, ◌≤◌, ◌&&◌, length, drop, MatchOption, ◌==◌, nat_lt};
 ghost use Rattle.words.specs.Format.{opened};
 ghost use Rattle.words.specs.Tests.{none};
 ghost use Rattle.words.specs.Words.{first_word, field as field_of};
@@ -56,8 +56,8 @@ pub fn is_last(word: u32, place: usize, rest: &[u8]) -> bool
     word as usize % (1 << 28) == place && rest.is_empty()
 }
 
-/// A word of this kind, whose fields are its lowest `width` bits: any other kind is refused with `WrongKind`, and then a bit above them with
-/// `UnusedBit` (docs/REFUSALS.md, "Reading").
+/// A word of this kind, whose fields are its lowest `width` bits: any other kind is refused with `WrongKind`, and then a bit above
+/// them with `UnusedBit` (docs/REFUSALS.md, "Reading").
 // The kind is a number here: three formats have each an enum of their own, and a trait over them would be a second name for `as u32`.
 pub fn open(word: u32, kind: u32, width: u32) -> Result<(), Refusal>
     ensures { result ≡ opened kind width word }

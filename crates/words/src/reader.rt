@@ -1,5 +1,4 @@
 // Reading a book, whatever its format: word by word into a draft of it, up to the end word.
-ghost use Rattle.std.specs.Prelude.{◌≡◌};
 ghost use Rattle.words.specs.Drafts.{Stepped, Finished, Answers};
 ghost use Rattle.words.specs.Format.{Format, reading, ending};
 ghost use Rattle.words.specs.Tests.{none};

@@ -1,5 +1,6 @@
 use Rattle.std.proofs.Common.{◌≡◌, ◌*◌, length, take, ap, ◌∙◌, arith, rules}
 use Rattle.std.proofs.lemmas.List.{take_at}
+use Rattle.promise.proofs.Promising.{on_meaning}
 use Rattle.slotplan.proofs.Holding.{told, held, passed}
 use Rattle.slotplan.proofs.written.written_out.Goals as goal
 
@@ -31,4 +32,4 @@ returns-in-Err-write_pile-clause-holds g c =
     let bytes : length c.as_mut_slice-2.result.now ≡ 1212424 = search rules in
     let told = c.write_pile.ensures in
     let over = passed (g.P.SiteModel.meaning c.args.pile.now) (g.met.P.SiteModel.lawful c.args.pile.now) c.in-Err-write_pile.refusal c.write_pile.result _ _ codes bytes c.in-Err-write_pile.is told.answer in
-    (over.0, told.faithful.exceeds 4096 over.1)
+    (over.0, (on_meaning _ _ (g.met.P.Pile.laid c.args.pile.now) told.pile).represents.exceeds 4096 over.1)
