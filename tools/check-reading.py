@@ -1,7 +1,7 @@
 #!/usr/bin/env python3
 """Checks docs/READING-THE-PROMISE.md: it lists every page of specs that the contracts below name, directly or through `use` lines, and no
-other; each page after those that it uses; and the counts that it gives are right. Nothing is proved here. With --types it prints, page by
-page, the types that come from code."""
+other, each page after those that it uses; it names each type that comes from code where it first comes; and its counts are right. Nothing
+is proved here."""
 import re
 import subprocess
 import sys
@@ -92,11 +92,14 @@ for i, p in enumerate(listed):
 for count in (f"{len(promised)} of {len(pages)} pages", f"{len(meant)} more"):
     if count not in doc:
         wrong.append(f"the page does not say: {count}")
-if "--types" in sys.argv:
-    known = set()
-    for p in listed:
-        types = [m.removesuffix(".TheVariants") for m, _ in uses(pages[p].read_text()) if ".declared." in m and not m.startswith("std.")]
-        print(p, sorted(set(types) - known))
-        known |= set(types)
+lines = dict(re.findall(r"^\d+\. `(\w+/specs/\w+)`: (.*)", doc, re.M))
+known = set()
+for p in (p for p in listed if p in pages):
+    types = {m.removesuffix(".TheVariants") for m, _ in uses(pages[p].read_text()) if ".declared." in m and not m.startswith("std.")}
+    said = set(re.findall(r"`(\w+)`", lines[p.replace(".", "/")].partition("From code: ")[2].partition(" of crate")[0]))
+    new = {m.split(".")[-1] for m in types - known}
+    if new != said:
+        wrong.append(f"{p}: the types from code are {sorted(new)}")
+    known |= types
 print("\n".join(wrong) if wrong else f"check-reading: {len(listed)} pages, in order")
 sys.exit(bool(wrong))
