@@ -5,14 +5,14 @@
 mod floor;
 mod footing;
 mod laying;
-mod promise;
 mod raised;
 mod skipping;
 mod tower;
+mod truthful;
 
 pub use floor::Floor;
 pub use footing::{Footing, Pile};
 pub use laying::{Unlaid, lay_all, refusals};
-pub use promise::start_of;
 pub use skipping::{Built, lay_each};
 pub use tower::{Three, Tower};
+pub use truthful::truthful_start;

@@ -22,4 +22,5 @@ pub record Corresponds (pile : Piling) : Type 0 where
   pub over_pile : OnePathAbove pile.base (shown_on pile) pile.model
   pub in_book : Writable pile.model
       → Unfolds pile.base (shown_on pile) (book_model pile.model) (place_in pile)
-  pub over_book : Writable pile.model → OnePathAbove pile.base (shown_on pile) (book_model pile.model)
+  pub over_book : Writable pile.model
+      → OnePathAbove pile.base (shown_on pile) (book_model pile.model)

@@ -61,7 +61,8 @@ PlansAs w m horizon t (Err (Refused r)) = refusal_in m horizon t ≡ Some r
 PlansAs w m horizon t (Err (Memory e)) = refusal_in m horizon t ≡ None
 
 -- the codes and the book, or all 0 where they are refused; the plan, or what was there before
-pub record TablesLeft (w : Weigh) (m : Model) (horizon : ℕ) (result : Result Plan Unplanned) (before after : Tables) : Type 0 where
+pub record TablesLeft (w : Weigh) (m : Model) (horizon : ℕ) (result : Result Plan Unplanned)
+    (before after : Tables) : Type 0 where
   pub codes : after.codes.now
       ≡ table_after (written_in m before) (length before.codes.now) (codes_of m)
   pub bytes : after.bytes.now

@@ -23,7 +23,8 @@ use Rattle.writeout.specs.Tables.{Writable, out_book, word_count}
 
 -- the plan's choices as a policy: it goes to the listed state that the history leads to, and takes the choice there for the slots left
 abbrev pub policy_of : Piling → Plan → Policy
-policy_of pile p = tabled (vec_items p.choices) (book_model pile.model).span (place_in pile) p.horizon
+policy_of pile p =
+    tabled (vec_items p.choices) (book_model pile.model).span (place_in pile) p.horizon
 
 pub record IsPlanOf (w : Weigh) (pile : Piling) (horizon : ℕ) (p : Plan) : Type 0 where
   pub corresponds : Corresponds pile
@@ -68,5 +69,7 @@ advice_after π horizon r = advice_by π horizon r.history r.chosen
 abbrev pub AdvisesAsPolicy : Plan → Walk → Advice → Type 0
 AdvisesAsPolicy p walk answer =
     (w : Weigh) (pile : Piling) (horizon : ℕ) → IsPlanOf w pile horizon p
-    → (ns : List ℕ) → walk ≡ reached discount_of (book_model pile.model) (begun discount_of (book_model pile.model)) ns
+    → (ns : List ℕ)
+    → walk
+    ≡ reached discount_of (book_model pile.model) (begun discount_of (book_model pile.model)) ns
     → answer ≡ advice_after (policy_of pile p) horizon (reckoned_after pile.base (shown_on pile) (begins pile.base) ns)

@@ -3,7 +3,7 @@ use Rattle.std.proofs.Common.{◌≡◌, ℕ, ◌<◌, ◌≤◌, true, List, []
 use Rattle.std.proofs.lemmas.List.{length_push}
 use Rattle.words.specs.Words.{kind}
 use Rattle.words.specs.Format.{ends}
-use Rattle.words.specs.Refusing.{word_tests, book_tests, first_failing, RefusesRightly}
+use Rattle.words.specs.Refusing.{word_tests, book_tests, first_not_passed, RefusesRightly}
 use Rattle.words.proofs.Encoding.{Passes, passes_append}
 use Rattle.words.proofs.Refusing.{refused, why_not, refuses_rightly}
 use Rattle.rulelayout.specs.declared.RuleHead.{RuleHead}
@@ -13,7 +13,7 @@ use Rattle.rulelayout.specs.WordTests.{may_end, passes, closes}
 use Rattle.rulelayout.proofs.Faithful.{steps, effects_lead, action_step, listed_more, listed_all, acts_pass, head_step}
 use Rattle.rulelayout.proofs.OneWord.{head_parts}
 
-tested : (d : Draft) (w : ℕ) → Good d → refused (read_word d w) ≡ first_failing word_tests (passes d w)
+tested : (d : Draft) (w : ℕ) → Good d → refused (read_word d w) ≡ first_not_passed word_tests (passes d w)
 unfolding read_word
 tested blank w g = search rules
 tested (listing h acts) w g = search rules
@@ -34,7 +34,7 @@ end_reads (listing h acts) w g m e = search rules
 end_reads (inside h acts n es) w g m e = search rules
 end_reads (whole h acts) w g m e = search rules
 
-judged : (d : Draft) → Good d → may_end d ≡ true → why_not (whole_rule d) ≡ first_failing book_tests (closes d)
+judged : (d : Draft) → Good d → may_end d ≡ true → why_not (whole_rule d) ≡ first_not_passed book_tests (closes d)
 unfolding whole_rule
 judged blank g e = search rules
 judged (listing h acts) g e = search rules

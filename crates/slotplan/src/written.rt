@@ -10,13 +10,13 @@ use refusal::Refusal;
 use register::Register;
 use std::alloc::{AllocError, Global};
 
-// How many states a book holds at most.
+/// How many states a book holds at most.
 pub const STATES: usize = 4096;
 
-// How many words it then has at most: the head, two for each state, nine for each action in a state, and the end.
+/// How many words it then has at most: the head, two for each state, nine for each action in a state, and the end.
 pub const WORDS: usize = 1 + 2 * STATES + 8 * 9 * STATES + 1;
 
-// The codes of the reachable states, and the bytes of their site book.
+/// The codes of the reachable states, and the bytes of their site book.
 #[derive(Drop)]
 pub struct Book {
     pub codes: Vec<u64>,
@@ -33,7 +33,7 @@ pub(crate) fn check_states<P: Pile>(pile: &P) -> Result<(), Refusal>
     Ok(())
 }
 
-// Writes the pile out into tables that hold the largest book. Memory may run out only where the pile can be written out.
+/// Writes the pile out into tables that hold the largest book. Memory may run out only where the pile can be written out.
 pub fn written_out<P: Pile>(heap: Global, pile: &P) -> Result<Result<Book, Refusal>, AllocError>
     ensures holds { IfOk result (IsWrittenOut (P.SiteModel.meaning pile.now)) }
     ensures memory { OnErr result (Writable (P.SiteModel.meaning pile.now)) }

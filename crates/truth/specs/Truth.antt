@@ -38,7 +38,8 @@ holds (negation a) τ i = not (holds a τ i)
 holds (conjunction a b) τ i = holds a τ i && holds b τ i
 holds (disjunction a b) τ i = holds a τ i || holds b τ i
 holds (previously a) τ i = before i (λ j. holds a τ j)
-holds (since a b) τ i = some_to i (λ j. holds b τ j && all_to i (λ m. implies (nat_lt j m) (holds a τ m)))
+holds (since a b) τ i =
+    some_to i (λ j. holds b τ j && all_to i (λ m. implies (nat_lt j m) (holds a τ m)))
 holds (always a) τ i = all_to i (λ j. holds a τ j)
 holds (sometime a) τ i = some_to i (λ j. holds a τ j)
 
@@ -51,7 +52,8 @@ IsTrueAt (negation a) τ i = ¬ IsTrueAt a τ i
 IsTrueAt (conjunction a b) τ i = IsTrueAt a τ i × IsTrueAt b τ i
 IsTrueAt (disjunction a b) τ i = IsTrueAt a τ i ⊎ IsTrueAt b τ i
 IsTrueAt (previously a) τ i = (j : ℕ) × ((suc j ≡ i) × IsTrueAt a τ j)
-IsTrueAt (since a b) τ i = (j : ℕ) × ((j ≤ i) × (IsTrueAt b τ j × ((m : ℕ) → j < m → m ≤ i → IsTrueAt a τ m)))
+IsTrueAt (since a b) τ i =
+    (j : ℕ) × ((j ≤ i) × (IsTrueAt b τ j × ((m : ℕ) → j < m → m ≤ i → IsTrueAt a τ m)))
 IsTrueAt (always a) τ i = (j : ℕ) → j ≤ i → IsTrueAt a τ j
 IsTrueAt (sometime a) τ i = (j : ℕ) × ((j ≤ i) × IsTrueAt a τ j)
 

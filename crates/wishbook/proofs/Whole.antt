@@ -6,7 +6,7 @@ use Rattle.formula.specs.Formulas.{earlier}
 use Rattle.formula.specs.Items.{kept_items}
 use Rattle.formula.specs.Merging.{nodes_of, numbers_of, Merges, KeepsFormulas}
 use Rattle.formula.specs.Resting.{resting}
-use Rattle.formula.proofs.KeepsFormulas.{faithful}
+use Rattle.formula.proofs.Faithful.{faithful}
 use Rattle.std.proofs.lemmas.Bool.{and_parts, and_from, ltb-true, lt-ltb, le-leb, lt-leb}
 use Rattle.refusal.specs.declared.Refusal.TheVariants.{WrongKind, TooManyItems}
 use Rattle.words.specs.Drafts.{Finished}

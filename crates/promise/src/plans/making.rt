@@ -121,7 +121,7 @@ fn prepare<P: Pile>(
     })
 }
 
-// Writes the pile out, reads the book back, and plans on it. Every refusal is found before anything is allocated.
+/// Writes the pile out, reads the book back, and plans on it. Every refusal is found before anything is allocated.
 pub fn plan_pile<P: Pile, W: Weighing>(
     heap: Global,
     pile: &P,
