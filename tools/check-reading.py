@@ -11,29 +11,29 @@ root = Path(__file__).resolve().parent.parent
 
 # the promised calls, and the traits whose ghost members their contracts speak of
 CALLS = [
-    ("sitebook/src/book/reading.rt", "pub fn read_site"),
-    ("rulebook/src/read.rt", "pub fn read_rule"),
-    ("wishbook/src/read.rt", "pub fn read_wish"),
-    ("model/src/lib.rt", "pub trait SiteModel"),
-    ("model/src/lib.rt", "pub trait GroundModel"),
-    ("pile/src/footing.rt", "pub trait Pile"),
-    ("pile/src/promise.rt", "pub fn start_of"),
-    ("weighing/src/lib.rt", "pub trait Weighing"),
-    ("promise/src/writing.rt", "pub fn write_pile"),
-    ("promise/src/walks.rt", "pub fn plan_and_walk"),
+    ("sitebook", "pub fn read_site"),
+    ("rulebook", "pub fn read_rule"),
+    ("wishbook", "pub fn read_wish"),
+    ("model", "pub trait SiteModel"),
+    ("model", "pub trait GroundModel"),
+    ("pile", "pub trait Pile"),
+    ("pile", "pub fn truthful_start"),
+    ("weighing", "pub trait Weighing"),
+    ("promise", "pub fn write_pile"),
+    ("promise", "pub fn plan_and_walk"),
 ]
 # what these stand for in the programs
 MEANT = [
-    ("pile/src/laying.rt", "pub fn lay_all"),
-    ("pile/src/footing.rt", "> Pile for Footing<"),
-    ("pile/src/raised.rt", "> Pile for Layer<"),
-    ("layer/src/layers.rt", "> SiteModel for Layer<"),
-    ("ground/src/answers.rt", "impl SiteModel for GroundBook"),
-    ("rulebook/src/book.rt", "impl SiteModel for RuleBook"),
-    ("sitebook/src/book.rt", "impl SiteModel for SiteBook"),
-    ("outbook/src/lib.rt", "impl SiteModel for OriginBook"),
-    ("weighing/src/lib.rt", "impl Weighing for Mean"),
-    ("weighing/src/lib.rt", "impl Weighing for Worst"),
+    ("pile", "pub fn lay_all"),
+    ("pile", "> Pile for Footing<"),
+    ("pile", "> Pile for Layer<"),
+    ("layer", "> SiteModel for Layer<"),
+    ("ground", "impl SiteModel for GroundBook"),
+    ("rulebook", "impl SiteModel for RuleBook"),
+    ("sitebook", "impl SiteModel for SiteBook"),
+    ("outbook", "impl SiteModel for OriginBook"),
+    ("weighing", "impl Weighing for Mean"),
+    ("weighing", "impl Weighing for Worst"),
 ]
 
 USE = re.compile(r"use Rattle\.([\w.]+?)(?:\.\{([^}]*)\}| as \w+)?;?[ \t]*$", re.M)
@@ -53,9 +53,10 @@ for f in subprocess.check_output(["git", "ls-files", "crates/*/specs/*.antt"], c
 used = {p: [m for m, _ in uses(f.read_text()) if m in pages] for p, f in pages.items()}
 
 
-def named(file, start):
+def named(crate, start):
     """the pages that a contract names, or the ghost members of a trait or an impl"""
-    text = (root / "crates" / file).read_text()
+    texts = [f.read_text() for f in sorted((root / "crates" / crate / "src").rglob("*.rt"))]
+    text = next(t for t in texts if re.search(re.escape(start) + r"\b", t))
     at = text.index(start)
     if "fn " in start:
         said = text[at : text.index("\n{\n", at)]
@@ -101,5 +102,6 @@ for p in (p for p in listed if p in pages):
     if new != said:
         wrong.append(f"{p}: the types from code are {sorted(new)}")
     known |= types
+wrong += [f"there is no file {f}" for f in re.findall(r"`((?:crates|tools)/[a-z]+[\w/.-]*\.\w+)`", doc) if not (root / f).exists()]
 print("\n".join(wrong) if wrong else f"check-reading: {len(listed)} pages, in order")
 sys.exit(bool(wrong))
