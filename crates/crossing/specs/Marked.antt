@@ -6,7 +6,7 @@ use Rattle.formula.specs.declared.Item.TheVariants.{Held}
 use Rattle.formula.specs.declared.Node.{Node}
 use Rattle.formula.specs.declared.Node.TheVariants.{Label, And, Previous}
 use Rattle.model.specs.Models.{Model}
-use Rattle.pile.specs.Piles.{piled, wishes}
+use Rattle.pilemodel.specs.Piles.{piled, wishes}
 use Rattle.reach.specs.Search.{codes_of}
 use Rattle.refusal.specs.declared.Refusal.{Refusal}
 use Rattle.refusal.specs.declared.Refusal.TheVariants.{NotOffered, NoSuchOutcome}
@@ -18,7 +18,7 @@ use Rattle.sitelayout.specs.Site.{Site}
 use Rattle.walk.specs.declared.Step.{Step}
 use Rattle.walk.specs.Walker.{begun, run}
 use Rattle.weighing.specs.Discounts.{discount_of}
-use Rattle.weighing.specs.Weighings.{mean, worst}
+use Rattle.weighmodel.specs.Weighings.{mean, worst}
 use Rattle.wishbook.specs.Book.{Book, book_of}
 use Rattle.wishlayout.specs.declared.Wish.{Wish}
 use Rattle.wishlayout.specs.Layout.{wish_format}

@@ -11,7 +11,7 @@ use Rattle.register.proofs.Steps.{kept_none, kept_there, kept_new}
 use Rattle.formula.specs.declared.Node.{Node}
 use Rattle.formula.specs.declared.Node.TheVariants.{Label, True, Not, And, Or, Previous, Since, Always, Once}
 use Rattle.formula.specs.Formulas.{Formula, truth, tree_of, formulas, operands_below, earlier_from, earlier}
-use Rattle.formula.specs.Merging.{same_node, renumbered, SoFar, merge_one, merge_from, Faithful}
+use Rattle.formula.specs.Merging.{same_node, renumbered, SoFar, merge_one, merge_from, KeepsFormulas}
 use Rattle.formula.proofs.Trees.{formulas-push, length-formulas, formulas_at, operands_below_more, earlier_at, earlier-push}
 use Rattle.formula.proofs.Apart.{tree_of_apart}
 
@@ -152,7 +152,7 @@ sound_all came (w ∷ ws) m sound h =
     (sound_all (came ++ (w ∷ [])) ws m' (sound_more came m.nodes m.numbers w sound p.0)
     (subst (λ (j : ℕ). earlier_from j ws ≡ true) long p.1))
 
-pub faithful : (ws : List Node) → earlier ws ≡ true → Faithful ws
+pub faithful : (ws : List Node) → earlier ws ≡ true → KeepsFormulas ws
 faithful ws h =
     let none : Sound [] [] [] = record {
       long = refl;

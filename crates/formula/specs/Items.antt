@@ -29,7 +29,8 @@ looks_back i n = false
 -- some used node below k is the previous of i
 abbrev pub back_below : List Node → List Bool → ℕ → ℕ → Bool
 back_below nodes used zero i = false
-back_below nodes used (suc k) i = back_below nodes used k i || (used_at used k && looks_back i (node_at nodes k))
+back_below nodes used (suc k) i =
+    back_below nodes used k i || (used_at used k && looks_back i (node_at nodes k))
 
 -- the items of a node
 abbrev pub items_at : List Node → List Bool → ℕ → List Item
@@ -47,7 +48,8 @@ kept_items nodes used = items_below nodes used (length nodes)
 
 -- the items that a book keeps: of its node words, and the numbers of the words that its rewards name
 abbrev pub items_of : List Node → List ℕ → List Item
-items_of ws roots = kept_items (nodes_of ws) (resting (nodes_of ws) (map (λ r. slice_index (numbers_of ws) r) roots))
+items_of ws roots =
+    kept_items (nodes_of ws) (resting (nodes_of ws) (map (λ r. slice_index (numbers_of ws) r) roots))
 
 -- where an item stands in the order
 abbrev pub rank : Item → ℕ
@@ -66,7 +68,8 @@ pub record Selected (nodes : List Node) (used : List Bool) (items : List Item) :
       → Contains items (Held i)
   pub held_only : (i : ℕ) → Contains items (Held i)
       → (i < length nodes) × IsTrue (used_at used i) × Remembered nodes used i
-  pub failed_kept : (i : ℕ) → i < length nodes → IsTrue (used_at used i) → IsTrue (is_always (node_at nodes i))
+  pub failed_kept : (i : ℕ) → i < length nodes → IsTrue (used_at used i)
+      → IsTrue (is_always (node_at nodes i))
       → Contains items (Failed i)
   pub failed_only : (i : ℕ) → Contains items (Failed i)
       → (i < length nodes) × IsTrue (used_at used i) × IsTrue (is_always (node_at nodes i))
@@ -76,4 +79,5 @@ pub record Selected (nodes : List Node) (used : List Bool) (items : List Item) :
 -- the kept items of at most 128 nodes; or there are more nodes, or more items than the list can hold
 abbrev pub ListsItems : {most : ℕ} → List Node → List Bool → Option (Bounded Item most) → Type 0
 ListsItems nodes used (Some items) = (length nodes ≤ 128) × (listed items ≡ kept_items nodes used)
-ListsItems {most} nodes used None = (128 < length nodes) ⊎ ((length nodes ≤ 128) × (most < length (kept_items nodes used)))
+ListsItems {most} nodes used None =
+    (128 < length nodes) ⊎ ((length nodes ≤ 128) × (most < length (kept_items nodes used)))

@@ -30,7 +30,9 @@ second_field n = slice_index (operands n) 1
 
 -- the same kind and fields
 abbrev pub same_node : Node → Node → Bool
-same_node n m = node_kind n == node_kind m && (first_field n == first_field m && second_field n == second_field m)
+same_node n m =
+    node_kind n == node_kind m
+    && (first_field n == first_field m && second_field n == second_field m)
 
 -- the node with its operands through a list of numbers
 abbrev pub renumbered : List ℕ → Node → Node
@@ -72,15 +74,17 @@ abbrev pub numbers_of : List Node → List ℕ
 numbers_of ws = (merge_all ws).numbers
 
 -- what merging keeps of words whose operands number earlier words: the formulas, each once, in the order in which they first come
-pub record Faithful (ws : List Node) : Type 0 where
+pub record KeepsFormulas (ws : List Node) : Type 0 where
   pub formulas_kept : Kept (formulas ws) (formulas (nodes_of ws))
   pub same_formula : (i : ℕ) → i < length ws
-      → slice_index_or (formulas (nodes_of ws)) (slice_index (numbers_of ws) i) truth ≡ slice_index_or (formulas ws) i truth
+      → slice_index_or (formulas (nodes_of ws)) (slice_index (numbers_of ws) i) truth
+      ≡ slice_index_or (formulas ws) i truth
   pub still_earlier : IsTrue (earlier (nodes_of ws))
   pub all_numbered : length (numbers_of ws) ≡ length ws
   pub in_range : (i : ℕ) → i < length ws → slice_index (numbers_of ws) i < length (nodes_of ws)
 
 -- the answer to merging: both lists, or there are too many words
 abbrev pub Merges : List Node → Option Merged → Type 0
-Merges ws (Some m) = (length ws ≤ 128) × (listed m.nodes ≡ nodes_of ws) × (listed m.numbers ≡ numbers_of ws)
+Merges ws (Some m) =
+    (length ws ≤ 128) × (listed m.nodes ≡ nodes_of ws) × (listed m.numbers ≡ numbers_of ws)
 Merges ws None = 128 < length ws

@@ -26,7 +26,8 @@ operands n = []
 -- the node of that number rests
 pub data Rests (nodes : List Node) (roots : List ℕ) : ℕ → Type 0 where
   root : {i : ℕ} → Contains roots i → Rests nodes roots i
-  below : {i a : ℕ} → Rests nodes roots i → Contains (operands (node_at nodes i)) a → Rests nodes roots a
+  below : {i a : ℕ} → Rests nodes roots i → Contains (operands (node_at nodes i)) a
+      → Rests nodes roots a
 
 -- the places of a list marked one after another; one past the end is passed over
 abbrev pub all_marked : List Bool → List ℕ → List Bool
@@ -36,18 +37,23 @@ all_marked ms (a ∷ rest) = all_marked (slice_set ms a true) rest
 -- the nodes below k in falling order: where one is marked, its operands are marked
 abbrev pub spread : List Node → ℕ → List Bool → List Bool
 spread nodes zero ms = ms
-spread nodes (suc k) ms = spread nodes k (if used_at ms k then all_marked ms (operands (node_at nodes k)) else ms)
+spread nodes (suc k) ms =
+    spread nodes k (if used_at ms k then all_marked ms (operands (node_at nodes k)) else ms)
 
 -- for each node, whether it rests
 abbrev pub resting : List Node → List ℕ → List Bool
-resting nodes roots = spread nodes (length nodes) (all_marked (replicate (length nodes) false) roots)
+resting nodes roots =
+    spread nodes (length nodes) (all_marked (replicate (length nodes) false) roots)
 
 -- of nodes whose operands number earlier nodes, those are marked that rest, and no other
 pub record Exact (nodes : List Node) (roots : List ℕ) : Type 0 where
-  pub every : (i : ℕ) → i < length nodes → Rests nodes roots i → IsTrue (used_at (resting nodes roots) i)
-  pub only : (i : ℕ) → i < length nodes → IsTrue (used_at (resting nodes roots) i) → Rests nodes roots i
+  pub every : (i : ℕ) → i < length nodes → Rests nodes roots i
+      → IsTrue (used_at (resting nodes roots) i)
+  pub only : (i : ℕ) → i < length nodes → IsTrue (used_at (resting nodes roots) i)
+      → Rests nodes roots i
 
 -- the marks of at most 128 nodes, in a table of 128
 abbrev pub Rested : List Node → List ℕ → Option (List Bool) → Type 0
-Rested nodes roots (Some ms) = (length nodes ≤ 128) × (ms ≡ resting nodes roots ++ replicate (128 - length nodes) false)
+Rested nodes roots (Some ms) =
+    (length nodes ≤ 128) × (ms ≡ resting nodes roots ++ replicate (128 - length nodes) false)
 Rested nodes roots None = 128 < length nodes

@@ -1,5 +1,5 @@
 ghost use Rattle.formula.specs.Formulas.{earlier};
-ghost use Rattle.formula.specs.Merging.{renumbered, Faithful, Merges};
+ghost use Rattle.formula.specs.Merging.{renumbered, KeepsFormulas, Merges};
 ghost use Rattle.std.specs.Prelude.{◌≡◌, IsTrue};
 
 use super::table::at;
@@ -37,7 +37,7 @@ fn renumber(numbers: &[u8], word: Node) -> Node
 // A register lists its keys in a table that it is lent: here one that is copied at the end.
 pub fn merge(words: &[Node]) -> Option<Merged>
     ensures answer { Merges words.now result }
-    ensures faithful { IsTrue (earlier words.now) → Faithful words.now }
+    ensures faithful { IsTrue (earlier words.now) → KeepsFormulas words.now }
 {
     if words.len() > NODES {
         return None;

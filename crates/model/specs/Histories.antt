@@ -22,7 +22,12 @@ pub record Shown : Type 0 where
 
 -- of a model by itself: what its last state shows and offers
 abbrev pub by_itself : Model → Shown
-by_itself m = record { mask = λ h. m.mask (final h); reward = λ h. m.reward (final h); offered = λ h a. m.offered (final h) a }
+by_itself m =
+    record {
+      mask = λ h. m.mask (final h);
+      reward = λ h. m.reward (final h);
+      offered = λ h a. m.offered (final h) a;
+    }
 
 pub data History (g : Model) (offered : List ℕ → ℕ → Bool) : List ℕ → Type 0 where
   begun : History g offered (g.start ∷ [])
@@ -44,7 +49,8 @@ pub record Unfolds (g : Model) (sh : Shown) (m : Model) (code : List ℕ → ℕ
   pub sites : (h : List ℕ) → History g sh.offered h → m.site (code h) ≡ final h
   pub masks : (h : List ℕ) → History g sh.offered h → m.mask (code h) ≡ sh.mask h
   pub rewards : (h : List ℕ) → History g sh.offered h → m.reward (code h) ≡ sh.reward h
-  pub offers : (h : List ℕ) → History g sh.offered h → (a : ℕ) → m.offered (code h) a ≡ sh.offered h a
+  pub offers : (h : List ℕ) → History g sh.offered h → (a : ℕ)
+      → m.offered (code h) a ≡ sh.offered h a
   pub moves : (h : List ℕ) → History g sh.offered h → (a : ℕ) → IsTrue (sh.offered h a)
       → m.outcomes (code h) a ≡ map (along code h) (g.outcomes (final h) a)
 

@@ -1,3 +1,4 @@
 pub mod Models
 pub mod Idle
 pub mod Histories
+pub mod Masks

@@ -43,7 +43,8 @@ pub record LawfulStates (start : ℕ) (state : ℕ → Bool) (span : ℕ) : Type
   pub starts : IsTrue (state start)
   pub within : (s : ℕ) → IsTrue (state s) → s < span
 
-pub record LawfulMoves (state : ℕ → Bool) (offered : ℕ → ℕ → Bool) (outcomes : ℕ → ℕ → List Outcome) (actions : ℕ) : Type 0 where
+pub record LawfulMoves (state : ℕ → Bool) (offered : ℕ → ℕ → Bool) (outcomes : ℕ → ℕ → List Outcome)
+    (actions : ℕ) : Type 0 where
   -- actions
   pub acts : (1 ≤ actions) × (actions ≤ 8)
   pub offers : (s a : ℕ) → IsTrue (offered s a) → IsTrue (state s) × (a < actions)
@@ -51,15 +52,18 @@ pub record LawfulMoves (state : ℕ → Bool) (offered : ℕ → ℕ → Bool) (
   -- outcomes
   pub some : (s a : ℕ) → IsTrue (offered s a) → 1 ≤ length (outcomes s a)
   pub few : (s a : ℕ) → length (outcomes s a) ≤ 8
-  pub targets : (s a j : ℕ) (d : Outcome) → j < length (outcomes s a) → IsTrue (state (target_in (outcomes s a) j d))
+  pub targets : (s a j : ℕ) (d : Outcome) → j < length (outcomes s a)
+      → IsTrue (state (target_in (outcomes s a) j d))
   pub apart : (s a j k : ℕ) (d : Outcome) → j < length (outcomes s a) → k < length (outcomes s a)
       → target_in (outcomes s a) j d ≡ target_in (outcomes s a) k d → j ≡ k
-  pub weighed : (s a j : ℕ) (d : Outcome) → j < length (outcomes s a) → 1 ≤ (slice_index_or (outcomes s a) j d).weight
+  pub weighed : (s a j : ℕ) (d : Outcome) → j < length (outcomes s a)
+      → 1 ≤ (slice_index_or (outcomes s a) j d).weight
   pub whole : (s a : ℕ) → IsTrue (offered s a) → total (outcomes s a) ≡ 8
   pub silent : (s a : ℕ) → IsFalse (offered s a) → outcomes s a ≡ []
 
 -- labels and rewards
-pub record LawfulShows (state : ℕ → Bool) (mask : ℕ → ℕ) (reward : ℕ → ℤ) (labels bound : ℕ) : Type 0 where
+pub record LawfulShows (state : ℕ → Bool) (mask : ℕ → ℕ) (reward : ℕ → ℤ)
+    (labels bound : ℕ) : Type 0 where
   pub labelled : (s : ℕ) → mask s < 2 ^ labels
   pub narrow : labels ≤ 24
   pub bounded : (s : ℕ) → unsigned_abs (reward s) ≤ bound

@@ -5,7 +5,7 @@ use borrow.Rule.Slice.PartMut.{put_mid}
 use Rattle.words.specs.Words.{bytes_of}
 use Rattle.words.proofs.Encoding.{bytes_append}
 use Rattle.pen.specs.Bytes.{LaidIn}
-use Rattle.pen.specs.Laid.{Laid, Adds}
+use Rattle.pen.specs.Pens.{HasWritten, Adds}
 use Rattle.pen.specs.declared.Pen.{Pen}
 
 pub bytes_length : (ws : List ℕ) → length (bytes_of ws) ≡ 4 * length ws
@@ -47,7 +47,7 @@ laid_full vs w bs over = omega (arith, length_push vs w)
 -- one thing after another
 pub adds_both : (xs ys : List ℕ) (p q r : Pen) → Adds xs p q → Adds ys q r → Adds (xs ++ ys) p r
 adds_both xs ys p q r a b = record {
-  laid = λ vs h. subst (λ l. Laid l r) (append_assoc vs xs ys) (b.laid (vs ++ xs) (a.laid vs h));
+  laid = λ vs h. subst (λ l. HasWritten l r) (append_assoc vs xs ys) (b.laid (vs ++ xs) (a.laid vs h));
   room = b.room ∙ a.room;
   lent = b.lent ∙ a.lent;
 }

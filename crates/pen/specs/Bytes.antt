@@ -8,5 +8,7 @@ zero_padded n xs = xs ++ replicate (n - length xs) 0
 
 -- how many words there are, unless they were too many, and the table
 abbrev pub LaidIn : List ℕ → Option ℕ → List ℕ → Type 0
-LaidIn ws (Some n) bytes = (n ≡ length ws) × ((4 * length ws ≤ length bytes) × (bytes ≡ zero_padded (length bytes) (bytes_of ws)))
+LaidIn ws (Some n) bytes =
+    (n ≡ length ws)
+    × ((4 * length ws ≤ length bytes) × (bytes ≡ zero_padded (length bytes) (bytes_of ws)))
 LaidIn ws None bytes = length bytes < 4 * length ws

@@ -15,12 +15,12 @@ pub struct Pen<'a> {
 }
 
 impl<'a> Pen<'a> {
-    ghost use Rattle.pen.specs.Laid.{Laid, Adds, counted};
+    ghost use Rattle.pen.specs.Pens.{HasWritten, Adds, counted};
     ghost use Rattle.std.specs.Prelude.{List, [], ◌∷◌};
 
     /// A pen at the beginning of the table, which is wiped.
     pub fn new(bytes: &'a mut [u8]) -> Pen<'a>
-        ensures empty { Laid [] result }
+        ensures empty { HasWritten [] result }
         ensures room { length result.bytes.now ≡ length bytes.old }
         ensures lent { result.bytes.ghost_name ≡ bytes.entry.ghost_name }
     {
@@ -32,8 +32,6 @@ impl<'a> Pen<'a> {
     }
 
     /// One word more. Where there is no room for it, nothing more is written, and the words are no longer counted.
-    // The room is asked by hand: tried with `first_chunk_mut` of the table's rest, after which the check knew no more of the table
-    // than its length.
     pub fn put(&mut self, word: u32)
         ensures { Adds (word ∷ []) self.old self.new }
     {
@@ -51,7 +49,7 @@ impl<'a> Pen<'a> {
 
     /// How many words were written, unless they were too many for the table.
     pub fn written(&self) -> Option<usize>
-        ensures { (ws : List ℕ) → Laid ws self.now
+        ensures { (ws : List ℕ) → HasWritten ws self.now
             → result ≡ counted (length self.now.bytes.now) ws }
     {
         self.words

@@ -1,5 +1,3 @@
-pub mod Keeping
 pub mod Towers
 pub mod Stacking
 pub mod Turns
-pub mod Telling

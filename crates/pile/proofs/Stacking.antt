@@ -14,8 +14,9 @@ use Rattle.wishbook.specs.Contents.{contents}
 use Rattle.layermodel.proofs.Lawfulness.{room}
 use Rattle.layermodel.specs.Layered.{refusal, fits, layered, over}
 use Rattle.layermodel.proofs.Lawfulness.{fit_is}
-use Rattle.pile.specs.Piles.{wishes, floor_over, piled}
-use Rattle.pile.specs.Pushing.{floor_in, over_in}
+use Rattle.pilemodel.specs.Piles.{wishes, floor_over, piled}
+use Rattle.pilemodel.specs.Raised.{floor_in}
+use Rattle.pilemodel.proofs.Pushing.{over_in}
 use Rattle.pile.specs.Stacks.{floor_refusal, books_as_floors, floor_at, refusal_at, AllLaid, IsFirstRefused}
 use Rattle.pile.specs.declared.laying.Unlaid.{Unlaid}
 

@@ -8,8 +8,9 @@ use Rattle.wishbook.specs.Contents.{contents}
 use Rattle.layermodel.specs.Layered.{over}
 use Rattle.pile.specs.declared.floor.Floor.{Floor as Slab}
 use Rattle.pile.specs.declared.floor.Floor.TheVariants.{Bare}
-use Rattle.pile.specs.Piles.{floor_over, piled, Piling}
-use Rattle.pile.specs.Pushing.{floor_in, over_in, piled_push, raised}
+use Rattle.pilemodel.specs.Piles.{floor_over, piled, Piling}
+use Rattle.pilemodel.specs.Raised.{floor_in, raised}
+use Rattle.pilemodel.proofs.Pushing.{over_in, piled_push}
 use Rattle.pile.specs.Floors.{floor_of, floors_in, pile_of, slab_at, slab_in, slabs_below}
 
 -- the next floor, and those after it

@@ -10,8 +10,8 @@ use Rattle.wishbook.specs.Contents.{contents}
 use Rattle.layermodel.proofs.Lawfulness.{room}
 use Rattle.layermodel.specs.Layered.{refusal, fits, layered, over}
 use Rattle.layermodel.proofs.Lawfulness.{fit_is}
-use Rattle.pile.specs.Piles.{Floor, wishes, floor_over, piled}
-use Rattle.pile.specs.Pushing.{piled_push}
+use Rattle.pilemodel.specs.Piles.{Floor, wishes, floor_over, piled}
+use Rattle.pilemodel.proofs.Pushing.{piled_push}
 use Rattle.pile.specs.Skipping.{laid_books, present, JudgedSoFar, Judges}
 use Rattle.pile.specs.Stacks.{floor_refusal, why_not, books_as_floors}
 use Rattle.pile.proofs.Stacking.{over_laid}

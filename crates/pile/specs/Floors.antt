@@ -5,7 +5,7 @@ use Rattle.wishbook.specs.declared.book.WishBook.{WishBook}
 use Rattle.wishbook.specs.Contents.{contents}
 use Rattle.pile.specs.declared.floor.Floor.{Floor as Slab}
 use Rattle.pile.specs.declared.floor.Floor.TheVariants.{Bare, Wishes}
-use Rattle.pile.specs.Piles.{Floor, bare, wishes, Piling, piling}
+use Rattle.pilemodel.specs.Piles.{Floor, bare, wishes, Piling, piling}
 
 abbrev pub floor_of : Slab → Floor
 floor_of Bare = bare

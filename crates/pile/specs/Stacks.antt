@@ -10,8 +10,8 @@ use Rattle.layermodel.specs.Layered.{refusal}
 use Rattle.layer.specs.InMemory.{meaning_of}
 use Rattle.pile.specs.declared.footing.Footing.{Footing}
 use Rattle.pile.specs.declared.laying.Unlaid.{Unlaid}
-use Rattle.pile.specs.Piles.{Floor, bare, wishes, floor_over, piled}
-use Rattle.pile.specs.Pushing.{floor_in}
+use Rattle.pilemodel.specs.Piles.{Floor, bare, wishes, floor_over, piled}
+use Rattle.pilemodel.specs.Raised.{floor_in}
 
 -- the type `Three`
 abbrev pub Stack : Type 0 → Type 0
@@ -64,4 +64,6 @@ pub record HasFloors {G : Type 0} (p : Stack G) (ws : List WishBook) : Type 0 wh
 
 -- the pile means all the books on the ground model
 abbrev pub IsPileOf : {G : Type 0} → (G → Model) → G → List WishBook → Stack G → Type 0
-IsPileOf mean bottom ws p = meaning_of (meaning_of (meaning_of (λ f. mean f.bottom))) p ≡ piled (mean bottom) (books_as_floors ws)
+IsPileOf mean bottom ws p =
+    meaning_of (meaning_of (meaning_of (λ f. mean f.bottom))) p
+    ≡ piled (mean bottom) (books_as_floors ws)

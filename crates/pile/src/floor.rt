@@ -4,7 +4,7 @@ ghost use Rattle.pile.specs.Floors.{slab_in};
 
 use wishbook::WishBook;
 
-// What is laid on a model: nothing, or a wish book.
+/// What is laid on a model: nothing, or a wish book.
 #[derive(Clone, Copy)]
 pub enum Floor {
     Bare,

@@ -1,19 +1,20 @@
 // A pile by its ground model and its floors, and a ground model as a pile with no floor.
 ghost use Rattle.std.specs.Prelude.{◌≡◌};
-ghost use Rattle.pile.specs.Piles.{Laid, Piling};
-ghost use Rattle.pile.specs.Pushing.{grounding, laid_bare};
+ghost use Rattle.pilemodel.specs.Piles.{Laid, Piling};
+ghost use Rattle.pilemodel.specs.Raised.{grounding};
+ghost use Rattle.pilemodel.proofs.Pushing.{laid_bare};
 
 use model::{GroundModel, Outcomes, SiteModel, Sizes};
 
-// What a pile is, whatever its type: floors laid on a ground model.
+/// What a pile is, whatever its type: floors laid on a ground model.
 pub trait Pile: SiteModel {
     ghost piling: { Self → Piling };
 
     ghost laid: { (p : Self) → Laid (Self.SiteModel.meaning p) (piling p) };
 }
 
-// A ground model, whoever wrote it, as the bottom of a pile. It is a type of its own, since an `impl Pile` for every ground model would
-// overlap with that for every `Layer`.
+/// A ground model, whoever wrote it, as the bottom of a pile. It is a type of its own, since an `impl Pile` for every ground model would
+/// overlap with that for every `Layer`.
 #[derive(Drop)]
 pub struct Footing<G> {
     bottom: G,

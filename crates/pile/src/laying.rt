@@ -9,14 +9,14 @@ use model::{GroundModel, SiteModel};
 use refusal::Refusal;
 use wishbook::WishBook;
 
-// The number of a book that is not laid, the lowest being 0, and why.
+/// The number of a book that is not laid, the lowest being 0, and why.
 #[derive(Clone, Copy, Debug, PartialEq, Eq)]
 pub struct Unlaid {
     pub floor: usize,
     pub refusal: Refusal,
 }
 
-// Why each floor is not laid, the lowest first.
+/// Why each floor is not laid, the lowest first.
 pub fn refusals<G: GroundModel>(pile: &Three<G>) -> [Option<Refusal>; 3]
     ensures { result ≡ why_not (G.SiteModel.meaning (ground_of pile.now)) (floors_of pile.now) }
 {
@@ -44,7 +44,7 @@ fn lay<M: SiteModel + Drop>(below: M, books: &[WishBook], floor: usize) -> Resul
     }
 }
 
-// The pile of all the books, the first one lowest, or the first refusal. A fourth book is judged like any other, and never fits.
+/// The pile of all the books, the first one lowest, or the first refusal. A fourth book is judged like any other, and never fits.
 pub fn lay_all<G: GroundModel + Drop>(bottom: G, books: &[WishBook]) -> Result<Three<G>, Unlaid>
     ensures bottom { IfOk result (λ p. ground_of p ≡ bottom) }
     ensures floors { IfOk result (λ p. HasFloors p books.now) }

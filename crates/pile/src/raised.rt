@@ -1,5 +1,6 @@
 // A wish layer on a pile is a pile with one floor more.
-ghost use Rattle.pile.specs.Pushing.{laid_push, raised};
+ghost use Rattle.pilemodel.specs.Raised.{raised};
+ghost use Rattle.pilemodel.proofs.Pushing.{laid_push};
 
 use crate::footing::Pile;
 use layer::Layer;

@@ -11,7 +11,7 @@ use refusal::Refusal;
 use std::alloc::{AllocError, Global};
 use wishbook::WishBook;
 
-// The pile of the books that can be laid, and for each book why it is not.
+/// The pile of the books that can be laid, and for each book why it is not.
 #[derive(Drop)]
 pub struct Built<G> {
     pub pile: Three<G>,
@@ -38,7 +38,7 @@ fn first_laid<M: SiteModel>(
     Ok(None)
 }
 
-// Lays the books that can be laid, each on those before it that are. A fourth never fits.
+/// Lays the books that can be laid, each on those before it that are. A fourth never fits.
 pub fn lay_each<G: GroundModel + Drop>(
     heap: Global,
     bottom: G,

@@ -1,7 +1,7 @@
 // Building a pile from a list of floors.
 ghost use Rattle.std.specs.Prelude.{◌≡◌, ℕ, suc, [], ◌∷◌, ◌++◌, List, drop, take};
 ghost use Rattle.pile.specs.declared.floor.Floor.{Floor as Slab};
-ghost use Rattle.pile.specs.Piles.{piled};
+ghost use Rattle.pilemodel.specs.Piles.{piled};
 ghost use Rattle.pile.specs.Floors.{floors_in, pile_of, slab_in, slabs_below};
 
 use crate::floor::Floor;
@@ -9,10 +9,10 @@ use crate::footing::{Footing, Pile};
 use layer::Layer;
 use model::{GroundModel, SiteModel};
 
-// A pile of nought to three floors.
+/// A pile of nought to three floors.
 pub type Three<G> = Layer<Layer<Layer<Footing<G>>>>;
 
-// A type of piles that is built from a list of floors of a ground model, the lowest first.
+/// A type of piles that is built from a list of floors of a ground model, the lowest first.
 pub trait Tower: Pile {
     type Bottom: GroundModel;
 
@@ -23,8 +23,8 @@ pub trait Tower: Pile {
 
     ghost slabs: { Self → List Slab };
 
-    // Lays the floors, also where they are refused: the model below answers then. Floors that there is no room for are given back; where
-    // there are fewer, there is nothing on the upper ones.
+    /// Lays the floors, also where they are refused: the model below answers then. Floors that there is no room for are given back; where
+    /// there are fewer, there is nothing on the upper ones.
     fn stack(bottom: Self::Bottom, floors: &[Floor]) -> (Self, &[Floor])
         ensures bottom { bottom_of result.0 ≡ bottom }
         ensures slabs { slabs result.0 ≡ slabs_below room floors.now }

@@ -1,21 +1,12 @@
--- Sizes that are not refused. For others: `unrefused` and `refused_by`, what an answer tells of why it is refused; `sizes_pass`, what
--- sizes that are not refused pass; `accepted`, that they are refused for no value; `accepted_short`, the horizon.
+-- Sizes that are not refused. For others: `sizes_pass`, what sizes that are not refused pass; `accepted`, that they are refused for no
+-- value; `accepted_short`, the horizon.
 use Rattle.std.proofs.Common.{◌≡◌, ℕ, ◌+◌, ◌*◌, ◌≤◌, true, [], ◌∷◌, leb, Ok, Err, Some, None, Option, Result, refl, sym, ap, arith}
 use Rattle.std.proofs.lemmas.Bool.{leb-true, and_parts}
 use Rattle.refusal.specs.declared.Refusal.{Refusal}
 use Rattle.refusal.specs.declared.Refusal.TheVariants.{HorizonTooLong, PlanTableShort}
 use Rattle.refusal.specs.Rows.{unless}
-use Rattle.refusal.proofs.Rows.{passed}
+use Rattle.refusal.proofs.Rows.{passed, unrefused}
 use Rattle.planning.specs.Plans.{tables_hold, sizes_refusal}
-
--- a value is answered only where nothing is refused, and a refusal only where it is the one
-pub unrefused : {V : Type 0} (why : Option Refusal) (v w : V) → unless why v ≡ Ok w → why ≡ None
-unrefused None v w is = refl
-unrefused (Some r) v w is = let z : ◌≡◌ {A = ℕ} 0 1 = cc in absurd (omega arith)
-
-pub refused_by : {V : Type 0} (why : Option Refusal) (v : V) (r : Refusal) → unless why v ≡ Err r → why ≡ Some r
-refused_by None v r is = let z : ◌≡◌ {A = ℕ} 0 1 = cc in absurd (omega arith)
-refused_by (Some q) v r is = let same : q ≡ r = cc in ap Some same
 
 module _ (s h a b : ℕ) where
   -- a horizon of at most twelve slots, and room for all places in both tables

@@ -5,7 +5,7 @@ use Rattle.model.specs.Histories.{Shown, Unfolds}
 use Rattle.model.specs.Models.{Model, Lawful}
 use Rattle.model.proofs.Paths.{some_history}
 use Rattle.weighing.specs.Discounts.{discount_of}
-use Rattle.weighing.specs.Weighings.{Weigh, LawfulWeigh}
+use Rattle.weighmodel.specs.Weighings.{Weigh, LawfulWeigh}
 use Rattle.worth.specs.Policies.{Best, planned}
 use Rattle.worth.specs.Worths.{worth_of, choice_of}
 use Rattle.worth.proofs.Alike.{best_alike}

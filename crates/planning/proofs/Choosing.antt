@@ -5,7 +5,7 @@ use Rattle.std.proofs.lemmas.Nat.{div-mul-add, mod-mul-add, mul-add-lt}
 use Rattle.model.specs.Models.{Model, Lawful, NumberedBy}
 use Rattle.model.proofs.Laws.{target_state}
 use Rattle.weighing.specs.Discounts.{discount_of}
-use Rattle.weighing.specs.Weighings.{Weigh, held, free_mean, free_worst}
+use Rattle.weighmodel.specs.Weighings.{Weigh, held, free_mean, free_worst}
 use Rattle.worth.specs.declared.Pick.{Pick}
 use Rattle.worth.specs.Choosing.{Picks}
 use Rattle.worth.specs.Unheld.{NeverHeld}

@@ -9,7 +9,7 @@ use Rattle.model.specs.declared.Outcome.{Outcome}
 use Rattle.model.specs.Models.{Model, Lawful, NumberedBy}
 use Rattle.model.proofs.Laws.{target_state}
 use Rattle.weighing.specs.Discounts.{discount_of}
-use Rattle.weighing.specs.Weighings.{Weigh, LawfulWeigh, Within, held}
+use Rattle.weighmodel.specs.Weighings.{Weigh, LawfulWeigh, Within, held}
 use Rattle.worth.specs.declared.Pick.{Pick}
 use Rattle.worth.specs.Worths.{joined, joined_from, own_part, summed, better, pick_below, pick_at, worth_by, worth_of, choice_of, action_of}
 use Rattle.worth.proofs.Joining.{joined_same}

@@ -2,7 +2,7 @@
 use Rattle.std.specs.Prelude.{◌≡◌, ℕ, ◌+◌, ◌-◌, ◌*◌, ◌<◌, ◌≤◌, List, ℤ, ◌+ℤ◌, slice_index}
 use Rattle.model.specs.Models.{Model}
 use Rattle.weighing.specs.Discounts.{discount_of}
-use Rattle.weighing.specs.Weighings.{Weigh, held, mean, worst, free_mean, free_worst}
+use Rattle.weighmodel.specs.Weighings.{Weigh, held, mean, worst, free_mean, free_worst}
 use Rattle.worth.specs.declared.Pick.{Pick}
 use Rattle.worth.specs.Choosing.{Picks}
 use Rattle.worth.specs.Worths.{joined, own_part, worth_by, worth_of}

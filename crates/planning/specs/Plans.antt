@@ -7,7 +7,7 @@ use Rattle.refusal.specs.declared.Refusal.{Refusal}
 use Rattle.refusal.specs.declared.Refusal.TheVariants.{HorizonTooLong, PlanTableShort}
 use Rattle.refusal.specs.Rows.{first_failing, unless}
 use Rattle.weighing.specs.Discounts.{discount_of}
-use Rattle.weighing.specs.Weighings.{Weigh}
+use Rattle.weighmodel.specs.Weighings.{Weigh}
 use Rattle.worth.specs.declared.Pick.{Pick}
 use Rattle.worth.specs.Policies.{Policy, Best}
 use Rattle.worth.specs.Worths.{worth_of, choice_of}

@@ -2,7 +2,7 @@
 ghost use Rattle.std.specs.Prelude.{◌≡◌, IfSome, ◌≤◌, ◌<◌, ◌+◌, ◌*◌, ◌^◌, ◌*ℤ◌, length, pos, unsigned_abs};
 ghost use Rattle.bounded.specs.Listed.{listed as ways};
 ghost use Rattle.weighing.specs.Discounts.{discount_of};
-ghost use Rattle.weighing.specs.Weighings.{Within, held};
+ghost use Rattle.weighmodel.specs.Weighings.{Within, held};
 ghost use Rattle.worth.specs.Worths.{action_of, joined, own_part, pick_at, summed};
 ghost use Rattle.planning.specs.Plans.{choice_at, EntryAt, Filled, HoldsTo, stored_worth, worth_at};
 

@@ -9,7 +9,7 @@ use Rattle.std.proofs.lemmas.Option.{slice_get-get_or}
 use Rattle.model.specs.Histories.{History}
 use Rattle.model.specs.Models.{Model}
 use Rattle.model.proofs.Paths.{some_history}
-use Rattle.pile.specs.Piles.{Piling, shown_on}
+use Rattle.pilemodel.specs.Piles.{Piling, shown_on}
 use Rattle.promise.specs.Corresponding.{book_model, place_in}
 use Rattle.promise.specs.WholePlan.{IsPlanOf, advice_by, choice_for, policy_of}
 use Rattle.promise.specs.declared.advising.Advice.{Advice}
@@ -17,7 +17,7 @@ use Rattle.promise.specs.declared.advising.Advice.TheVariants.{Choose, Tell, End
 use Rattle.promise.specs.declared.plans.Plan.{Plan}
 use Rattle.walk.specs.Walker.{Walk, standing, choosing, chosen_in, is_choosing}
 use Rattle.weighing.specs.Discounts.{discount_of}
-use Rattle.weighing.specs.Weighings.{Weigh}
+use Rattle.weighmodel.specs.Weighings.{Weigh}
 use Rattle.worth.specs.Policies.{Policy}
 use Rattle.worth.specs.Worths.{choice_of}
 

@@ -3,7 +3,7 @@
 use Rattle.std.proofs.Common.{◌≡◌, ℕ, ◌++◌, List, length, take, drop, not, Some, None, Option, Ok, Err, Result, refl, ap, ◌∙◌, subst, arith}
 use Rattle.std.specs.Prelude.{IfOk, IsSomeAnd, is_none}
 use Rattle.model.specs.Models.{Model}
-use Rattle.pile.specs.Piles.{Piling, place_on, shown_on}
+use Rattle.pilemodel.specs.Piles.{Piling, place_on, shown_on}
 use Rattle.promise.specs.Corresponding.{Corresponds, book_model, place_in}
 use Rattle.promise.specs.Walking.{AgreeOnPile, AgreeInBook, CourseInBook, CourseTold, StandsInBook, StandsOnPile, StepsInBook, WalkedInBook, reckoned}
 use Rattle.promise.specs.WholePlan.{IsPlanOf}
@@ -17,7 +17,7 @@ use Rattle.walk.specs.Reckoner.{Agree, StaysBeside, begins, reckoned_after}
 use Rattle.walk.specs.Walker.{Walk, standing, choosing, begun, chosen_in, is_choosing, reached, run}
 use Rattle.walk.proofs.Agreement.{agrees_over_all, beside_over_all}
 use Rattle.weighing.specs.Discounts.{discount_of}
-use Rattle.weighing.specs.Weighings.{Weigh}
+use Rattle.weighmodel.specs.Weighings.{Weigh}
 use Rattle.writeout.specs.Copies.{by_origin}
 use Rattle.writeout.specs.Tables.{Writable, out_book}
 

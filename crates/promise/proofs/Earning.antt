@@ -2,11 +2,11 @@
 -- `best_in_book`.
 use Rattle.std.proofs.Common.{◌≡◌, ℕ, List, ℤ, Ok, sym, subst}
 use Rattle.model.specs.Histories.{Unfolds}
-use Rattle.pile.specs.Piles.{Piling, shown_on}
+use Rattle.pilemodel.specs.Piles.{Piling, shown_on}
 use Rattle.planning.specs.Plans.{NobodyBetter, tabled}
 use Rattle.sitelayout.specs.Site.{Site}
 use Rattle.weighing.specs.Discounts.{discount_of}
-use Rattle.weighing.specs.Weighings.{Weigh}
+use Rattle.weighmodel.specs.Weighings.{Weigh}
 use Rattle.writeout.specs.Copies.{by_origin}
 use Rattle.writeout.specs.Tables.{Represents, Writable, out_book}
 use Rattle.writeout.proofs.Origins.{origin_lawful}

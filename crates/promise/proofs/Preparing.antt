@@ -6,14 +6,14 @@ use Rattle.std.specs.Option.{option_or}
 use Rattle.std.specs.Result.{IsErrAnd}
 use Rattle.model.specs.Models.{Model}
 use Rattle.planning.specs.Plans.{sizes_refusal}
-use Rattle.planning.proofs.Accepting.{refused_by, unrefused}
+use Rattle.refusal.proofs.Rows.{refused_by, unrefused}
 use Rattle.promise.specs.Causes.{OutOfMemory}
 use Rattle.promise.specs.Corresponding.{book_model}
 use Rattle.promise.specs.Planning.{PlansAs, ReadyAs, plan_refusal}
 use Rattle.promise.specs.declared.causes.Unplanned.{Unplanned}
 use Rattle.promise.specs.declared.causes.Unplanned.TheVariants.{Refused, Memory}
 use Rattle.promise.specs.declared.plans.Tables.{Tables}
-use Rattle.weighing.specs.Weighings.{Weigh}
+use Rattle.weighmodel.specs.Weighings.{Weigh}
 use Rattle.writeout.proofs.Outcomes.{wrote}
 use Rattle.refusal.specs.declared.Refusal.{Refusal}
 use Rattle.writeout.specs.declared.Written.{Written}

@@ -4,7 +4,7 @@ use Rattle.std.specs.Prelude.{vec_items}
 use Rattle.std.proofs.lemmas.List.{length-take, get_or-take}
 use Rattle.model.specs.Models.{Model}
 use Rattle.writeout.proofs.Origins.{origin_lawful, origin_numbered}
-use Rattle.pile.specs.Piles.{Piling, shown_on}
+use Rattle.pilemodel.specs.Piles.{Piling, shown_on}
 use Rattle.planning.proofs.Accepting.{sizes_pass}
 use Rattle.planning.proofs.Better.{nobody_better}
 use Rattle.planning.proofs.Choosing.{picks_lowest}
@@ -17,7 +17,7 @@ use Rattle.reach.specs.Search.{codes_of}
 use Rattle.refusal.specs.declared.Refusal.{Refusal}
 use Rattle.refusal.specs.Rows.{unless}
 use Rattle.sitebook.specs.Contents.{contents}
-use Rattle.weighing.specs.Weighings.{Weigh, LawfulWeigh}
+use Rattle.weighmodel.specs.Weighings.{Weigh, LawfulWeigh}
 use Rattle.writeout.specs.Tables.{Represents, Writable, out_book, word_count}
 
 module _ (w : Weigh) (law : LawfulWeigh w) (pile : Piling) (h : ℕ) (represents : Represents pile.model) (corresponds : Corresponds pile) where

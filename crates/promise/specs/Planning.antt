@@ -3,7 +3,7 @@
 use Rattle.std.specs.Prelude.{◌≡◌, ℕ, ◌+◌, ◌*◌, length, ℤ, ◌≤ℤ◌, Some, None, Option, Ok, Err, Result}
 use Rattle.std.specs.Option.{option_or}
 use Rattle.model.specs.Models.{Model}
-use Rattle.pile.specs.Piles.{Piling, shown_on}
+use Rattle.pilemodel.specs.Piles.{Piling, shown_on}
 use Rattle.planning.specs.Plans.{answer_of, worth_at, choice_at, Left, tabled, sizes_refusal}
 use Rattle.promise.specs.Corresponding.{book_model, place_in}
 use Rattle.promise.specs.declared.causes.Unplanned.{Unplanned}
@@ -16,7 +16,7 @@ use Rattle.refusal.specs.declared.Refusal.{Refusal}
 use Rattle.sitebook.specs.Contents.{contents}
 use Rattle.sitelayout.specs.Layout.{site_words}
 use Rattle.weighing.specs.Discounts.{discount_of}
-use Rattle.weighing.specs.Weighings.{Weigh, LawfulWeigh}
+use Rattle.weighmodel.specs.Weighings.{Weigh, LawfulWeigh}
 use Rattle.words.specs.Format.{file}
 use Rattle.worth.specs.Policies.{Policy, Admissible, earns, Best, planned}
 use Rattle.worth.specs.Worths.{worth_of}
@@ -61,7 +61,8 @@ PlansAs w m horizon t (Err (Refused r)) = refusal_in m horizon t ≡ Some r
 PlansAs w m horizon t (Err (Memory e)) = refusal_in m horizon t ≡ None
 
 -- the codes and the book, or all 0 where they are refused; the plan, or what was there before
-pub record TablesLeft (w : Weigh) (m : Model) (horizon : ℕ) (result : Result Plan Unplanned) (before after : Tables) : Type 0 where
+pub record TablesLeft (w : Weigh) (m : Model) (horizon : ℕ) (result : Result Plan Unplanned)
+    (before after : Tables) : Type 0 where
   pub codes : after.codes.now
       ≡ table_after (written_in m before) (length before.codes.now) (codes_of m)
   pub bytes : after.bytes.now

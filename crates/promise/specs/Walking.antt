@@ -1,7 +1,7 @@
 -- Walking on a pile and on its written-out book beside the plan: the walker, who knows only the present state, and the reckoner, who
 -- keeps the whole record, agree.
 use Rattle.std.specs.Prelude.{◌≡◌, ℕ, ◌++◌, List, length, take, drop, IsSomeAnd, None, Option, Ok, Err, Result}
-use Rattle.pile.specs.Piles.{Piling, place_on, shown_on}
+use Rattle.pilemodel.specs.Piles.{Piling, place_on, shown_on}
 use Rattle.promise.specs.Corresponding.{book_model, place_in}
 use Rattle.promise.specs.declared.causes.Unplanned.{Unplanned}
 use Rattle.promise.specs.declared.plans.Plan.{Plan}
@@ -25,14 +25,18 @@ abbrev pub AgreeOnPile : Piling → Type 0
 AgreeOnPile pile = Agree discount_of pile.base (shown_on pile) pile.model
 
 abbrev pub AgreeInBook : Piling → Type 0
-AgreeInBook pile = Writable pile.model → Agree discount_of pile.base (shown_on pile) (book_model pile.model)
+AgreeInBook pile =
+    Writable pile.model → Agree discount_of pile.base (shown_on pile) (book_model pile.model)
 
 -- on the pile the walk stands where the record leads, and in the book at the place of that
 abbrev pub StandsOnPile : Piling → Type 0
-StandsOnPile pile = StaysBeside discount_of pile.base (shown_on pile) pile.model (place_on pile).code
+StandsOnPile pile =
+    StaysBeside discount_of pile.base (shown_on pile) pile.model (place_on pile).code
 
 abbrev pub StandsInBook : Piling → Type 0
-StandsInBook pile = Writable pile.model → StaysBeside discount_of pile.base (shown_on pile) (book_model pile.model) (place_in pile)
+StandsInBook pile =
+    Writable pile.model
+    → StaysBeside discount_of pile.base (shown_on pile) (book_model pile.model) (place_in pile)
 
 -- a table of steps after a walk: as many as there is room for, as the reckoner tells them
 abbrev pub StepsTold : Piling → List ℕ → List Step → List Step → Type 0
@@ -53,7 +57,8 @@ CourseInBook pile numbers (Ok p) o = IsSomeAnd o (CourseTold pile numbers)
 CourseInBook pile numbers (Err e) o = o ≡ None
 
 -- a walk on the book of a plan, where there is one
-abbrev pub WalkedInBook : List ℕ → Result Plan Unplanned → List Step → List Step → Option Course → Type 0
+abbrev pub WalkedInBook : List ℕ → Result Plan Unplanned → List Step → List Step → Option Course
+    → Type 0
 WalkedInBook numbers (Ok p) before after o =
     let book = by_origin (contents p.book.book) in
     (after ≡ run discount_of book (begun discount_of book) (take (length before) numbers)

@@ -3,7 +3,7 @@
 -- after the record of the crossing so far.
 use Rattle.std.specs.Prelude.{◌≡◌, ℕ, ◌-◌, ◌*◌, if◌then◌else◌, ◌&&◌, List, length, Some, None, Option, nat_le, nat_lt, vec_items}
 use Rattle.model.specs.Models.{Model}
-use Rattle.pile.specs.Piles.{Piling, shown_on}
+use Rattle.pilemodel.specs.Piles.{Piling, shown_on}
 use Rattle.planning.specs.Choices.{PicksLowest}
 use Rattle.planning.specs.Plans.{choice_at, HoldsTo, tabled}
 use Rattle.promise.specs.Corresponding.{Corresponds, book_model, place_in}
@@ -16,14 +16,15 @@ use Rattle.sitebook.specs.Contents.{contents}
 use Rattle.walk.specs.Reckoner.{Reckoner, begins, reckoned_after}
 use Rattle.walk.specs.Walker.{Walk, begun, reached}
 use Rattle.weighing.specs.Discounts.{discount_of}
-use Rattle.weighing.specs.Weighings.{Weigh}
+use Rattle.weighmodel.specs.Weighings.{Weigh}
 use Rattle.worth.specs.Policies.{Policy}
 use Rattle.worth.specs.Worths.{choice_of}
 use Rattle.writeout.specs.Tables.{Writable, out_book, word_count}
 
 -- the plan's choices as a policy: it goes to the listed state that the history leads to, and takes the choice there for the slots left
 abbrev pub policy_of : Piling → Plan → Policy
-policy_of pile p = tabled (vec_items p.choices) (book_model pile.model).span (place_in pile) p.horizon
+policy_of pile p =
+    tabled (vec_items p.choices) (book_model pile.model).span (place_in pile) p.horizon
 
 pub record IsPlanOf (w : Weigh) (pile : Piling) (horizon : ℕ) (p : Plan) : Type 0 where
   pub corresponds : Corresponds pile
@@ -68,5 +69,7 @@ advice_after π horizon r = advice_by π horizon r.history r.chosen
 abbrev pub AdvisesAsPolicy : Plan → Walk → Advice → Type 0
 AdvisesAsPolicy p walk answer =
     (w : Weigh) (pile : Piling) (horizon : ℕ) → IsPlanOf w pile horizon p
-    → (ns : List ℕ) → walk ≡ reached discount_of (book_model pile.model) (begun discount_of (book_model pile.model)) ns
+    → (ns : List ℕ)
+    → walk
+    ≡ reached discount_of (book_model pile.model) (begun discount_of (book_model pile.model)) ns
     → answer ≡ advice_after (policy_of pile p) horizon (reckoned_after pile.base (shown_on pile) (begins pile.base) ns)

@@ -6,7 +6,7 @@ ghost use Rattle.promise.specs.declared.causes.Unplanned.TheVariants as unplanne
 use refusal::{Refusal, Unread};
 use std::alloc::AllocError;
 
-// Want of memory is no refusal: where it is told, nothing was refused.
+/// Want of memory is no refusal: where it is told, nothing was refused.
 #[derive(Clone, Copy, Debug, Drop, PartialEq, Eq)]
 pub enum Unplanned {
     Refused(Refusal),

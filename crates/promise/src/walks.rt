@@ -14,14 +14,14 @@ use std::alloc::Global;
 use walk::{Course, Step, replay};
 use weighing::Weighing;
 
-// The tables that two walks are told in: on the pile, and in its book.
+/// The tables that two walks are told in: on the pile, and in its book.
 #[derive(Drop)]
 pub struct Walks<'a> {
     pub on_pile: &'a mut [Step],
     pub in_book: &'a mut [Step],
 }
 
-// What came of a pile: the plan, or why there is none; the walk on the pile; and the walk in the book where there is a plan.
+/// What came of a pile: the plan, or why there is none; the walk on the pile; and the walk in the book where there is a plan.
 #[derive(Drop)]
 pub struct Journey {
     pub plan: Result<Plan, Unplanned>,
@@ -43,10 +43,10 @@ fn walk_in_book(
     }
 }
 
-// Plans on the book that is written out of the pile, and walks through the numbers, each a choice where none is open and else a told
-// outcome: once on the pile, and once on the book. Both walks are closed at the end, where no outcome is missing.
-// For every lawful ground model and every pile on it, walker and reckoner agree on the pile and on its book (`pile`), the plan earns
-// exactly its worth (`earns`), and no policy that knows the whole history earns more (`nobody`).
+/// Plans on the book that is written out of the pile, and walks through the numbers, each a choice where none is open and else a told
+/// outcome: once on the pile, and once on the book. Both walks are closed at the end, where no outcome is missing.
+/// For every lawful ground model and every pile on it, walker and reckoner agree on the pile and on its book (`pile`), the plan earns
+/// exactly its worth (`earns`), and no policy that knows the whole history earns more (`nobody`).
 pub fn plan_and_walk<P: Pile, W: Weighing>(
     heap: Global,
     pile: &P,
@@ -80,7 +80,7 @@ pub fn plan_and_walk<P: Pile, W: Weighing>(
         result.plan }
     ensures nobody { NobodyEarnsMore (W.meaning weighing.now) (P.Pile.piling pile.now) horizon
         result.plan }
-    ensures pile { Promises (P.Pile.piling pile.now) }
+    ensures pile { Promises (P.SiteModel.meaning pile.now) (P.Pile.piling pile.now) }
 {
     let on_pile = replay(pile, numbers, &mut *walks.on_pile);
     let plan = plan_pile(heap, pile, weighing, horizon, tables);

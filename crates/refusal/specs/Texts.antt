@@ -10,7 +10,9 @@ abbrev pub refused_text : Refused → List ℕ
 refused_text r = codes "refused: " ++ decimal (number r.refusal) ++ codes ": " ++ sentence r.refusal
 
 abbrev pub fault_text : Fault → List ℕ
-fault_text f = codes "refused: " ++ decimal (number f.refusal) ++ codes " at word " ++ decimal f.place ++ codes ": " ++ sentence f.refusal
+fault_text f =
+    codes "refused: " ++ decimal (number f.refusal) ++ codes " at word " ++ decimal f.place
+    ++ codes ": " ++ sentence f.refusal
 
 abbrev pub unread_text : Unread → List ℕ
 unread_text (unread.Refused f) = fault_text f

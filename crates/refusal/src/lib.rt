@@ -35,20 +35,20 @@ pub enum Refusal {
     LastSlot = 20,
 }
 
-// A refusal and the place of the word that it is about, counted from 0.
+/// A refusal and the place of the word that it is about, counted from 0.
 #[derive(Clone, Copy, Debug, PartialEq, Eq)]
 pub struct Fault {
     pub refusal: Refusal,
     pub place: usize,
 }
 
-// A refusal that is about no word.
+/// A refusal that is about no word.
 #[derive(Clone, Copy, Debug, PartialEq, Eq)]
 pub struct Refused {
     pub refusal: Refusal,
 }
 
-// Why a book is not read: its file is refused, or there is not enough memory for it.
+/// Why a book is not read: its file is refused, or there is not enough memory for it.
 #[derive(Clone, Copy, Debug, PartialEq, Eq)]
 pub enum Unread {
     Refused(Fault),
@@ -56,7 +56,7 @@ pub enum Unread {
 }
 
 impl Refusal {
-    // The number that people know the refusal by.
+    /// The number that people know the refusal by.
     pub fn number(&self) -> u8
         ensures number { result ≡ number_of self.now }
         ensures apart { Apart }
@@ -64,7 +64,7 @@ impl Refusal {
         *self as u8
     }
 
-    // The refusal of the word at a place.
+    /// The refusal of the word at a place.
     pub fn at(self, place: usize) -> Fault
         ensures { result ≡ record { refusal = self; place = place } }
     {
@@ -74,7 +74,7 @@ impl Refusal {
         }
     }
 
-    // What to tell a person.
+    /// What to tell a person.
     pub fn sentence(&self) -> &'static str
         ensures { result.now ≡ sentence_of self.now }
     {
@@ -104,7 +104,7 @@ impl Refusal {
 }
 
 impl Unread {
-    // What to tell a person.
+    /// What to tell a person.
     pub fn sentence(&self) -> &'static str
         ensures { result.now ≡ why_unread self.now }
     {

@@ -45,10 +45,12 @@ pub record KeptBy {K : Type 0} (Same : K → K → Type 0) (ks kept : List K) : 
   pub every : (x : K) → Contains ks x → (y : K) × Contains kept y × Same x y
   -- wherever one came that is the same as one that is kept, this had come, or came then
   pub first : (j q : ℕ) (d : K) → j < length kept → q < length ks
-      → Same (slice_index_or ks q d) (slice_index_or kept j d) → Contains (take (q + 1) ks) (slice_index_or kept j d)
+      → Same (slice_index_or ks q d) (slice_index_or kept j d)
+      → Contains (take (q + 1) ks) (slice_index_or kept j d)
   -- wherever one came that is the same as the later of two that are kept, the earlier had come before
   pub order : (i j q : ℕ) (d : K) → i < j → j < length kept → q < length ks
-      → Same (slice_index_or ks q d) (slice_index_or kept j d) → Contains (take q ks) (slice_index_or kept i d)
+      → Same (slice_index_or ks q d) (slice_index_or kept j d)
+      → Contains (take q ks) (slice_index_or kept i d)
 
 -- the same of keys as values
 abbrev pub Kept : {K : Type 0} → List K → List K → Type 0
@@ -62,7 +64,8 @@ Placed eq k ks None = place_of eq k ks ≡ length ks
 -- the answer to an entry into a table of so many places: a new key is refused where the table is full
 abbrev pub Entered : {K : Type 0} → (K → K → Bool) → K → ℕ → List K → List K → Option ℕ → Type 0
 Entered eq k room before after (Some p) = (p ≡ place_of eq k before) × (after ≡ enter eq k before)
-Entered eq k room before after None = (place_of eq k before ≡ length before) × (length before ≡ room) × (after ≡ before)
+Entered eq k room before after None =
+    (place_of eq k before ≡ length before) × (length before ≡ room) × (after ≡ before)
 
 -- the key at a place of ks
 abbrev pub Stands : {K : Type 0} → List K → ℕ → Option K → Type 0
@@ -77,7 +80,9 @@ Counted eq ks before after (Some n) =
     × (take n after ≡ enter_all eq [] ks)
     × (n ≡ length (enter_all eq [] ks))
     × (drop n after ≡ drop n before)
-Counted eq ks before after None = (length before < length (enter_all eq [] ks)) × (after ≡ take (length before) (enter_all eq [] ks))
+Counted eq ks before after None =
+    (length before < length (enter_all eq [] ks))
+    × (after ≡ take (length before) (enter_all eq [] ks))
 
 -- the answer to where, from a place on and before another, a key equal to k stands in ks
 abbrev pub Found : {K : Type 0} → (K → K → Bool) → List K → K → ℕ → ℕ → Option ℕ → Type 0

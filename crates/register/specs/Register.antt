@@ -4,5 +4,6 @@ use Rattle.std.specs.declared.cmp.PartialEq as equality
 use Rattle.register.specs.declared.Key as key
 use Rattle.register.specs.declared.Register.{Register}
 
-abbrev pub keys_of : {K : Type 0} {k : key.Ghosts K} {e : equality.Ghosts K} → Register K k e → List K
+abbrev pub keys_of : {K : Type 0} {k : key.Ghosts K} {e : equality.Ghosts K} → Register K k e
+    → List K
 keys_of r = take r.len r.keys.now

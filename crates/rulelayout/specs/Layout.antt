@@ -64,12 +64,13 @@ masks_of k switches w =
 pub data Draft : Type 0 where
   blank : Draft  -- nothing
   listing : RuleHead → List Act → Draft  -- an action is due
-  inside : RuleHead → List Act → Masks → List Effect → Draft  -- an outcome of the last action is due
+  inside : RuleHead → List Act → Masks → List Effect
+      → Draft  -- an outcome of the last action is due
   whole : RuleHead → List Act → Draft  -- the end is due
 
 -- with these actions read
-abbrev pub listed : RuleHead → List Act → Draft
-listed h acts = if nat_lt (length acts) h.actions then listing h acts else whole h acts
+abbrev pub after_acts : RuleHead → List Act → Draft
+after_acts h acts = if nat_lt (length acts) h.actions then listing h acts else whole h acts
 
 abbrev pub act_of : Masks → List Effect → Act
 act_of m es = record { on = m.first; off = m.second; effects = es }
@@ -81,12 +82,13 @@ effect_of m = record { set = m.first; clear = m.second; weight = m.count }
 abbrev pub filled : RuleHead → List Act → Masks → List Effect → Step Draft
 filled h acts m es =
     if nat_lt (length es) m.count then more (inside h acts m es)
-    else check (total es == 8) WrongTotal (more (listed h (acts ++ (act_of m es ∷ []))))
+    else check (total es == 8) WrongTotal (more (after_acts h (acts ++ (act_of m es ∷ []))))
 
 unfoldable pub read_word : Draft → ℕ → Step Draft
 read_word blank w = onto (head_of w) (λ h. more (listing h []))
 read_word (listing h acts) w = onto (masks_of 7 h.switches w) (λ m. more (inside h acts m []))
-read_word (inside h acts m es) w = onto (masks_of 8 h.switches w) (λ e. filled h acts m (es ++ (effect_of e ∷ [])))
+read_word (inside h acts m es) w =
+    onto (masks_of 8 h.switches w) (λ e. filled h acts m (es ++ (effect_of e ∷ [])))
 read_word (whole h acts) w = check (kind w == 15) WrongKind ends
 
 abbrev pub rule_of : RuleHead → List Act → Rule
@@ -106,13 +108,16 @@ rule_format = record { start = blank; step = read_word; finish = whole_rule }
 abbrev pub written : Draft → List ℕ
 written blank = []
 written (listing h acts) = word_of_head h.switches h.actions h.start ∷ act_words acts
-written (inside h acts m es) = word_of_head h.switches h.actions h.start ∷ (act_words acts ++ (action_word m.first m.second m.count ∷ effect_words es))
+written (inside h acts m es) =
+    word_of_head h.switches h.actions h.start
+    ∷ (act_words acts ++ (action_word m.first m.second m.count ∷ effect_words es))
 written (whole h acts) = word_of_head h.switches h.actions h.start ∷ act_words acts
 
 -- what is known of a draft: the head, the actions and the outcomes that it has are good ones, and there is room for what is due
 
 abbrev pub Begun : RuleHead → List Act → Type 0
-Begun h acts = IsTrue (good_head h.switches h.actions h.start) × IsTrue (all (good_act h.switches) acts)
+Begun h acts =
+    IsTrue (good_head h.switches h.actions h.start) × IsTrue (all (good_act h.switches) acts)
 
 abbrev pub Good : Draft → Type 0
 Good blank = Unit {0}

@@ -41,8 +41,11 @@ waits [] = false
 waits (a ∷ rest) = a.on == 0 && a.off == 0
 
 abbrev pub good_head : ℕ → ℕ → ℕ → Bool
-good_head switches actions start = within 1 10 switches && (within 1 8 actions && nat_lt start (2 ^ switches))
+good_head switches actions start =
+    within 1 10 switches && (within 1 8 actions && nat_lt start (2 ^ switches))
 
 -- what a rule book may say
 abbrev pub valid : Rule → Bool
-valid b = good_head b.switches (length b.acts) b.start && (all (good_act b.switches) b.acts && waits b.acts)
+valid b =
+    good_head b.switches (length b.acts) b.start
+    && (all (good_act b.switches) b.acts && waits b.acts)

@@ -58,7 +58,8 @@ once d w = true
 
 -- WrongTotal: more outcomes of the action are due after this one, or with it the weights total 8
 abbrev pub totals : Draft → ℕ → Bool
-totals (inside h acts m es) w = nat_lt (length es + 1) m.count || total (es ++ (effect_of (masks_in w) ∷ [])) == 8
+totals (inside h acts m es) w =
+    nat_lt (length es + 1) m.count || total (es ++ (effect_of (masks_in w) ∷ [])) == 8
 totals d w = true
 
 -- the test of one word, by the refusal

@@ -1,17 +1,18 @@
 -- What a rule book means as a site model: the states are the masks of its switches, and a state's labels are the switches that
 -- are on. An outcome clears its switches and then sets its switches; outcomes of an action that land in one state are one
 -- outcome, at the place of the first of them, with their weights added.
-use Rattle.std.specs.Prelude.{◌≡◌, ℕ, ◌+◌, ◌/◌, ◌%◌, ◌^◌, Bool, not, ◌&&◌, ◌||◌, IsTrue, IsFalse, if◌then◌else◌, List, [], ◌∷◌, map, length, pos, ◌==◌, bit_and, bit_or, bit_xor, nat_le, nat_lt, slice_index_or}
+use Rattle.std.specs.Prelude.{◌≡◌, ℕ, ◌+◌, ◌^◌, Bool, not, ◌&&◌, ◌||◌, IsTrue, IsFalse, if◌then◌else◌, List, [], ◌∷◌, map, length, pos, ◌==◌, bit_and, bit_or, bit_xor, nat_le, nat_lt, slice_index_or}
 use Rattle.model.specs.declared.Outcome.{Outcome}
 use Rattle.model.specs.Histories.{targets_of}
+use Rattle.model.specs.Masks.{labelled}
 use Rattle.model.specs.Models.{Model}
 use Rattle.register.specs.Keys.{Kept}
 use Rattle.rulelayout.specs.declared.Effect.{Effect}
 use Rattle.rulelayout.specs.Rule.{Act, Rule, total}
 
--- whether the switch k is on in a mask; of labels truth says the same, and neither subject knows the other
+-- whether the switch k is on in a mask: it is a label
 abbrev pub is_on : ℕ → ℕ → Bool
-is_on k mask = mask / 2 ^ k % 2 == 1
+is_on k mask = labelled mask k
 
 -- where an outcome lands from s: its switches to clear go off (they are put on, then each is turned over), then those to set
 -- go on

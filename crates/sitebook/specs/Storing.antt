@@ -19,16 +19,19 @@ pub record Held : Type 0 where
   pub mask : ℕ
   pub at : ℕ
 
-abbrev pub held : Store → Held
-held s = record { book = site_of s.tables; room = vec_capacity s.tables.marks; mask = s.mask; at = s.at }
+abbrev pub held_by : Store → Held
+held_by s =
+    record { book = site_of s.tables; room = vec_capacity s.tables.marks; mask = s.mask; at = s.at }
 
 -- no state, room for those of the head, and cells that offer nothing for all of them
 abbrev pub nothing : Head → Held
-nothing h = record { book = record { labels = 0; actions = 0; marks = []; cells = replicate (h.states * h.actions) [] }; room = h.states; mask = 0; at = 0 }
+nothing h =
+    record { book = record { labels = 0; actions = 0; marks = []; cells = replicate (h.states * h.actions) [] }; room = h.states; mask = 0; at = 0 }
 
 -- the head
 abbrev pub with_head : Held → ℕ → Held
-with_head h w = record h { book = record h.book { labels = (head_in w).labels; actions = (head_in w).actions } }
+with_head h w =
+    record h { book = record h.book { labels = (head_in w).labels; actions = (head_in w).actions } }
 
 -- a mask, whose reward is due
 abbrev pub with_mask : Held → ℕ → Held

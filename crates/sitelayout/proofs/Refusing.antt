@@ -4,7 +4,7 @@ use Rattle.words.specs.Words.{kind}
 use Rattle.words.specs.Format.{more, ends}
 use Rattle.std.proofs.lemmas.Bool.{true≢false}
 use Rattle.refusal.specs.declared.Refusal.TheVariants.{NoWait}
-use Rattle.words.specs.Refusing.{word_tests, book_tests, first_failing, RefusesRightly}
+use Rattle.words.specs.Refusing.{word_tests, book_tests, first_not_passed, RefusesRightly}
 use Rattle.words.specs.Tests.{all, all_below, none}
 use Rattle.words.proofs.Encoding.{Passes, passes_append}
 use Rattle.words.proofs.Refusing.{refused, why_not, refuses_rightly}
@@ -18,7 +18,7 @@ use Rattle.sitelayout.specs.WordTests.{may_end, passes, closes}
 use Rattle.sitelayout.proofs.Account.{word_kept, choice}
 use Rattle.sitelayout.proofs.Way.{moves_lead, entry_step, mask_step, marked_more, marked_all, states_lead, way_cells}
 
-tested : (d : Draft) (w : ℕ) → Good d → refused (read_word d w) ≡ first_failing word_tests (passes d w)
+tested : (d : Draft) (w : ℕ) → Good d → refused (read_word d w) ≡ first_not_passed word_tests (passes d w)
 unfolding read_word
 tested fresh w g = search rules
 tested (marking h ms None) w g = search rules
@@ -54,7 +54,7 @@ cell_padded (c ∷ cs) n (suc k) = cell_padded cs n k
 waits_padded : (actions states n : ℕ) (cs : List (List Move)) → waits actions states (padded n cs) ≡ waits actions states cs
 waits_padded actions states n cs = λ i. all_below states (λ s. not (none (cell_padded cs (n - length cs) (s * actions) i)))
 
-judged : (d : Draft) → Good d → may_end d ≡ true → why_not (whole_book d) ≡ first_failing book_tests (closes d)
+judged : (d : Draft) → Good d → may_end d ≡ true → why_not (whole_book d) ≡ first_not_passed book_tests (closes d)
 unfolding whole_book
 judged fresh g e = search rules
 judged (marking h ms o) g e = search rules

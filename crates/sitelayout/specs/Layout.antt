@@ -19,7 +19,8 @@ use Rattle.sitelayout.specs.Site.{Site, taken, apart, total, good_mark, good_mov
 
 abbrev pub mark_words : List Mark → List ℕ
 mark_words [] = []
-mark_words (m ∷ ms) = word_of_mask m.mask ∷ (word_of_reward m.worth.raised m.worth.origin ∷ mark_words ms)
+mark_words (m ∷ ms) =
+    word_of_mask m.mask ∷ (word_of_reward m.worth.raised m.worth.origin ∷ mark_words ms)
 
 abbrev pub move_words : List Move → List ℕ
 move_words [] = []
@@ -28,23 +29,29 @@ move_words (m ∷ ms) = word_of_move m ∷ move_words ms
 -- the entry at place k of the table, where it offers anything
 abbrev pub cell_word : ℕ → ℕ → List Move → List ℕ
 cell_word actions k [] = []
-cell_word actions k (m ∷ ms) = word_of_entry (k / actions) (k % actions) (length (m ∷ ms)) ∷ move_words (m ∷ ms)
+cell_word actions k (m ∷ ms) =
+    word_of_entry (k / actions) (k % actions) (length (m ∷ ms)) ∷ move_words (m ∷ ms)
 
 abbrev pub cell_words : ℕ → ℕ → List (List Move) → List ℕ
 cell_words actions k [] = []
 cell_words actions k (c ∷ cs) = cell_word actions k c ++ cell_words actions (k + 1) cs
 
 abbrev pub site_words : Site → List ℕ
-site_words b = word_of_head (length b.marks) b.labels b.actions ∷ (mark_words b.marks ++ cell_words b.actions 0 b.cells)
+site_words b =
+    word_of_head (length b.marks) b.labels b.actions
+    ∷ (mark_words b.marks ++ cell_words b.actions 0 b.cells)
 
 -- reading
 
 -- what has been read so far
 pub data Draft : Type 0 where
   fresh : Draft  -- nothing yet
-  marking : Head → List Mark → Option ℕ → Draft  -- some of the states, and a mask whose reward is due
-  listing : Head → List Mark → List (List Move) → Draft  -- all states, and whole entries at their places
-  moving : Head → List Mark → List (List Move) → List Move → ℕ → Draft  -- an open entry: its outcomes so far, and how many are due after the next
+  marking : Head → List Mark → Option ℕ
+      → Draft  -- some of the states, and a mask whose reward is due
+  listing : Head → List Mark → List (List Move)
+      → Draft  -- all states, and whole entries at their places
+  moving : Head → List Mark → List (List Move) → List Move → ℕ
+      → Draft  -- an open entry: its outcomes so far, and how many are due after the next
 
 -- the place of an entry in the table
 abbrev pub place_of : Head → Entry → ℕ
@@ -60,7 +67,8 @@ marked h ms = if nat_lt (length ms) h.states then marking h ms None else listing
 
 -- entries rise strictly by state and action
 abbrev pub read_entry : Head → List Mark → List (List Move) → Entry → Step Draft
-read_entry h ms cs e = check (nat_le (length cs) (place_of h e)) NotRising (more (moving h ms (padded (place_of h e) cs) [] (e.outcomes - 1)))
+read_entry h ms cs e =
+    check (nat_le (length cs) (place_of h e)) NotRising (more (moving h ms (padded (place_of h e) cs) [] (e.outcomes - 1)))
 
 -- the last outcome closes its entry, whose weights then total 8
 abbrev pub moved : Head → List Mark → List (List Move) → List Move → ℕ → Step Draft
@@ -69,20 +77,23 @@ moved h ms cs mv (suc due) = more (moving h ms cs mv due)
 
 -- no target comes twice in an entry
 abbrev pub read_move : Head → List Mark → List (List Move) → List Move → ℕ → Move → Step Draft
-read_move h ms cs mv due m = check (not (taken m.target mv)) NotRising (moved h ms cs (mv ++ (m ∷ [])) due)
+read_move h ms cs mv due m =
+    check (not (taken m.target mv)) NotRising (moved h ms cs (mv ++ (m ∷ [])) due)
 
 -- what may come next, and what it adds
 unfoldable pub read_word : Draft → ℕ → Step Draft
 read_word fresh w = onto (head_of w) (λ h. more (marking h [] None))
 read_word (marking h ms None) w = onto (mask_of h.labels w) (λ m. more (marking h ms (Some m)))
-read_word (marking h ms (Some m)) w = onto (reward_of w) (λ r. more (marked h (ms ++ (record { mask = m; worth = r } ∷ []))))
+read_word (marking h ms (Some m)) w =
+    onto (reward_of w) (λ r. more (marked h (ms ++ (record { mask = m; worth = r } ∷ []))))
 read_word (listing h ms cs) w =
     if kind w == number_of End then ends
     else onto (entry_of h.states h.actions w) (read_entry h ms cs)
 read_word (moving h ms cs mv due) w = onto (move_of h.states w) (read_move h ms cs mv due)
 
 abbrev pub book_of : Head → List Mark → List (List Move) → Site
-book_of h ms cs = record { labels = h.labels; actions = h.actions; marks = ms; cells = padded (h.states * h.actions) cs }
+book_of h ms cs =
+    record { labels = h.labels; actions = h.actions; marks = ms; cells = padded (h.states * h.actions) cs }
 
 -- at the end action 0 is offered in every state; an end word comes nowhere else than after whole entries
 unfoldable pub whole_book : Draft → Result Site Refusal
@@ -109,10 +120,13 @@ written fresh = []
 written (marking h ms None) = head_words h ∷ mark_words ms
 written (marking h ms (Some m)) = head_words h ∷ (mark_words ms ++ (word_of_mask m ∷ []))
 written (listing h ms cs) = head_words h ∷ (mark_words ms ++ cell_words h.actions 0 cs)
-written (moving h ms cs mv due) = head_words h ∷ (mark_words ms ++ (cell_words h.actions 0 cs ++ (open_word h (length cs) (length mv + suc due) ∷ move_words mv)))
+written (moving h ms cs mv due) =
+    head_words h
+    ∷ (mark_words ms ++ (cell_words h.actions 0 cs ++ (open_word h (length cs) (length mv + suc due) ∷ move_words mv)))
 
 abbrev pub GoodHead : Head → Type 0
-GoodHead h = (1 ≤ h.states) × (h.states ≤ 4096) × (h.labels ≤ 24) × (1 ≤ h.actions) × (h.actions ≤ 8)
+GoodHead h =
+    (1 ≤ h.states) × (h.states ≤ 4096) × (h.labels ≤ 24) × (1 ≤ h.actions) × (h.actions ≤ 8)
 
 abbrev pub GoodMask : ℕ → Option ℕ → Type 0
 GoodMask labels None = Unit {0}

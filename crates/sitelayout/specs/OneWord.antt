@@ -15,7 +15,8 @@ use Rattle.sitelayout.specs.declared.kind.Kind.TheVariants as kinds
 use Rattle.sitelayout.specs.Kinds.{number_of}
 
 abbrev pub word_of_head : ℕ → ℕ → ℕ → ℕ
-word_of_head states labels actions = number_of kinds.Head * 2 ^ 28 + (states + labels * 2 ^ 13 + actions * 2 ^ 18)
+word_of_head states labels actions =
+    number_of kinds.Head * 2 ^ 28 + (states + labels * 2 ^ 13 + actions * 2 ^ 18)
 
 abbrev pub word_of_mask : ℕ → ℕ
 word_of_mask mask = number_of kinds.Mask * 2 ^ 28 + mask
@@ -24,7 +25,8 @@ abbrev pub word_of_reward : ℕ → ℕ → ℕ
 word_of_reward raised origin = number_of kinds.Reward * 2 ^ 28 + (raised + origin * 2 ^ 12)
 
 abbrev pub word_of_entry : ℕ → ℕ → ℕ → ℕ
-word_of_entry state action outcomes = number_of kinds.Entry * 2 ^ 28 + (state + action * 2 ^ 12 + outcomes * 2 ^ 15)
+word_of_entry state action outcomes =
+    number_of kinds.Entry * 2 ^ 28 + (state + action * 2 ^ 12 + outcomes * 2 ^ 15)
 
 abbrev pub word_of_move : Move → ℕ
 word_of_move m = number_of kinds.Move * 2 ^ 28 + (m.target + m.weight * 2 ^ 12)

@@ -25,14 +25,16 @@ abbrev pub total : List Move → ℕ
 total ms = sum_by (λ m. m.weight) ms
 
 abbrev pub good_mark : ℕ → Mark → Bool
-good_mark labels m = nat_lt m.mask (2 ^ labels) && (nat_le m.worth.raised 4000 && nat_lt m.worth.origin 4096)
+good_mark labels m =
+    nat_lt m.mask (2 ^ labels) && (nat_le m.worth.raised 4000 && nat_lt m.worth.origin 4096)
 
 abbrev pub good_move : ℕ → Move → Bool
 good_move states m = nat_lt m.target states && within 1 8 m.weight
 
 -- the outcomes of an offered action: one to eight, with different targets, and weights that total 8
 abbrev pub good_cell : ℕ → List Move → Bool
-good_cell states ms = none ms || (nat_le (length ms) 8 && (all (good_move states) ms && (apart ms && total ms == 8)))
+good_cell states ms =
+    none ms || (nat_le (length ms) 8 && (all (good_move states) ms && (apart ms && total ms == 8)))
 
 -- action 0 is offered in every state below n
 abbrev pub waits : ℕ → ℕ → List (List Move) → Bool

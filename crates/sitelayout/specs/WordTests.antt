@@ -51,11 +51,16 @@ unused_clear w = unused_in (kind_of w) w == 0
 
 -- OutOfRange: the fields of the word that is due lie in their ranges; an end word has none
 abbrev pub in_range : Draft → ℕ → Bool
-in_range fresh w = within 1 4096 (head_in w).states && (nat_le (head_in w).labels 24 && within 1 8 (head_in w).actions)
+in_range fresh w =
+    within 1 4096 (head_in w).states
+    && (nat_le (head_in w).labels 24 && within 1 8 (head_in w).actions)
 in_range (marking h ms None) w = nat_lt (mask_in w) (2 ^ h.labels)
 in_range (marking h ms (Some m)) w = nat_le (worth_in w).raised 4000
-in_range (listing h ms cs) w = is_end w || nat_lt (entry_in w).state h.states && (nat_lt (entry_in w).action h.actions && within 1 8 (entry_in w).outcomes)
-in_range (moving h ms cs mv due) w = nat_lt (move_in w).target h.states && within 1 8 (move_in w).weight
+in_range (listing h ms cs) w =
+    is_end w || nat_lt (entry_in w).state h.states
+    && (nat_lt (entry_in w).action h.actions && within 1 8 (entry_in w).outcomes)
+in_range (moving h ms cs mv due) w =
+    nat_lt (move_in w).target h.states && within 1 8 (move_in w).weight
 
 -- NotRising: an entry stands behind those before it, by state and action; the target of an outcome is none of those before it in its entry
 abbrev pub rises : Draft → ℕ → Bool

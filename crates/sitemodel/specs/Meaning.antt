@@ -18,7 +18,9 @@ mark_at b s = slice_index_or b.marks s blank
 
 -- the outcomes of an action in a state
 abbrev pub cell_at : Site → ℕ → ℕ → List Move
-cell_at b s a = if nat_lt s (length b.marks) && nat_lt a b.actions then slice_index_or b.cells (s * b.actions + a) [] else []
+cell_at b s a =
+    if nat_lt s (length b.marks)
+    && nat_lt a b.actions then slice_index_or b.cells (s * b.actions + a) [] else []
 
 abbrev pub outcome_of : Move → Outcome
 outcome_of m = record { target = m.target; weight = m.weight }

@@ -17,13 +17,14 @@ use Rattle.siteverdict.specs.declared.Counts.{Counts}
 use Rattle.siteverdict.specs.Counting.{bound_of, moves_in}
 
 -- the states read so far: so many, and the largest size of a reward
-pub record Marked (h : Head) (count most : ℕ) (ms : List Mark) : Type 0 where
+pub record TracksMarks (h : Head) (count most : ℕ) (ms : List Mark) : Type 0 where
   pub acts : 1 ≤ h.actions
   pub read : length ms ≡ count
   pub bound : bound_of ms ≡ most
 
 -- whole entries. `waiting`: the states below `offer` offer action 0, and the next does not where its place is filled
-pub record Tabled (c : Counts) (filled offer : ℕ) (ms : List Mark) (cs : List (List Move)) : Type 0 where
+pub record Tabled (c : Counts) (filled offer : ℕ) (ms : List Mark)
+    (cs : List (List Move)) : Type 0 where
   pub acts : 1 ≤ c.head.actions
   pub read : length ms ≡ c.head.states
   pub bound : bound_of ms ≡ c.bound
@@ -34,7 +35,8 @@ pub record Tabled (c : Counts) (filled offer : ℕ) (ms : List Mark) (cs : List 
   pub within : offer ≤ c.head.states
 
 -- an open entry, whose place is in the table
-pub record Opened (o : Open) (ms : List Mark) (cs : List (List Move)) (mv : List Move) : Type 0 where
+pub record Opened (o : Open) (ms : List Mark) (cs : List (List Move))
+    (mv : List Move) : Type 0 where
   pub table : Tabled o.table.counts o.table.cells o.table.waits ms cs
   pub room : o.table.cells < o.table.counts.head.states * o.table.counts.head.actions
   pub weighed : total mv ≡ o.total
@@ -43,16 +45,22 @@ pub record Opened (o : Open) (ms : List Mark) (cs : List (List Move)) (mv : List
 -- by what is due next
 
 abbrev pub AtMask : Marks → Draft → Type 0
-AtMask m d = (ms : List Mark) × ((d ≡ marking m.head ms None) × Marked m.head m.read m.bound ms)
+AtMask m d = (ms : List Mark) × ((d ≡ marking m.head ms None) × TracksMarks m.head m.read m.bound ms)
 
 abbrev pub AtReward : Marks → Draft → Type 0
-AtReward m d = (ms : List Mark) × ((k : ℕ) × ((d ≡ marking m.head ms (Some k)) × Marked m.head m.read m.bound ms))
+AtReward m d =
+    (ms : List Mark)
+    × ((k : ℕ) × ((d ≡ marking m.head ms (Some k)) × TracksMarks m.head m.read m.bound ms))
 
 abbrev pub AtEntry : Table → Draft → Type 0
-AtEntry t d = (ms : List Mark) × ((cs : List (List Move)) × ((d ≡ listing t.counts.head ms cs) × Tabled t.counts t.cells t.waits ms cs))
+AtEntry t d =
+    (ms : List Mark)
+    × ((cs : List (List Move)) × ((d ≡ listing t.counts.head ms cs) × Tabled t.counts t.cells t.waits ms cs))
 
 abbrev pub AtMove : Open → Draft → Type 0
-AtMove o d = (ms : List Mark) × ((cs : List (List Move)) × ((mv : List Move) × ((d ≡ moving o.table.counts.head ms cs mv o.due) × Opened o ms cs mv)))
+AtMove o d =
+    (ms : List Mark)
+    × ((cs : List (List Move)) × ((mv : List Move) × ((d ≡ moving o.table.counts.head ms cs mv o.due) × Opened o ms cs mv)))
 
 abbrev pub Tracks : State → Draft → Type 0
 Tracks phase.Fresh d = d ≡ fresh

@@ -16,22 +16,15 @@ use Rattle.writeout.proofs.Outcomes.{wrote, not_written}
 use Rattle.writeout.proofs.Wording.{book_most}
 use Rattle.writeout.specs.Tables.{Writable, table_after, out_book, outcome, word_count}
 
--- what the answer tells
-pub told : (m : Model) (w : Written) (r : Result Written Refusal) (places space : ℕ) → r ≡ Ok w → r ≡ outcome m places space
-    → Writable m × ((w.states ≡ length (codes_of m)) × ((w.words ≡ word_count m) × (4 * w.words ≤ space)))
-told m w r places space is answer =
-    let out = wrote m places space w (sym answer ∙ is) in
-    (out.few, (out.states, (out.words, omega (arith, out.room, out.words))))
-
 pub held : (m : Model) (w : Written) (r : Result Written Refusal) (codes bytes : List ℕ) (places space : ℕ) → r ≡ Ok w → r ≡ outcome m places space → codes ≡ table_after r places (codes_of m) → bytes ≡ table_after r space (file (site_words (out_book m)))
     → Writable m × ((take w.states codes ≡ codes_of m) × (take (4 * w.words) bytes ≡ file (site_words (out_book m))))
 held m w r codes bytes places space is answer codes-are bytes-are =
     let ws = site_words (out_book m) in
-    let (few, (states, (words, fit))) = told m w r places space is answer in
-    let long : length (file ws) ≡ 4 * w.words = omega (arith, bytes_length (ws ++ (end_word (length ws) ∷ [])), length_push ws (end_word (length ws)), words) in (
-      few,
+    let out = wrote m places space w (sym answer ∙ is) in
+    let long : length (file ws) ≡ 4 * w.words = omega (arith, bytes_length (ws ++ (end_word (length ws) ∷ [])), length_push ws (end_word (length ws)), out.words) in (
+      out.few,
       (
-        ap (take w.states) (codes-are ∙ ap (λ x. table_after x places (codes_of m)) is) ∙ take_at (codes_of m) _ w.states (sym states),
+        ap (take w.states) (codes-are ∙ ap (λ x. table_after x places (codes_of m)) is) ∙ take_at (codes_of m) _ w.states (sym out.states),
         ap (take (4 * w.words)) (bytes-are ∙ ap (λ x. table_after x space (file ws)) is) ∙ take_at (file ws) _ (4 * w.words) long,
       ),
     )

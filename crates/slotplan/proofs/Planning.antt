@@ -4,9 +4,9 @@ use Rattle.std.proofs.lemmas.Bool.{cond-true, le-leb}
 use Rattle.std.proofs.lemmas.Option.{none-some}
 use Rattle.std.specs.Option.{option_or}
 use Rattle.model.specs.Models.{Model, Lawful}
-use Rattle.pile.specs.Piles.{Piling}
+use Rattle.pilemodel.specs.Piles.{Piling}
 use Rattle.planning.specs.Plans.{sizes_refusal, tables_hold}
-use Rattle.planning.proofs.Accepting.{unrefused}
+use Rattle.refusal.proofs.Rows.{unrefused}
 use Rattle.promise.specs.Corresponding.{book_model}
 use Rattle.promise.specs.Planning.{PlansAs, plan_refusal}
 use Rattle.promise.specs.WholePlan.{IsPlanOf}
@@ -18,7 +18,7 @@ use Rattle.reach.specs.Search.{codes_of}
 use Rattle.refusal.specs.declared.Refusal.{Refusal}
 use Rattle.refusal.specs.declared.Refusal.TheVariants.{HorizonTooLong, PlanTableShort}
 use Rattle.std.specs.Prelude.{IfOk}
-use Rattle.weighing.specs.Weighings.{Weigh}
+use Rattle.weighmodel.specs.Weighings.{Weigh}
 use Rattle.writeout.specs.declared.Written.{Written}
 use Rattle.writeout.specs.Tables.{Represents, Writable, outcome, word_count, written_refusal}
 use Rattle.slotplan.specs.Planning.{PlansOr}

@@ -13,4 +13,5 @@ three_digits n = (48 + n / 100) ∷ ((48 + n / 10 % 10) ∷ ((48 + n % 10) ∷ [
 
 -- the sign, the whole part in decimal digits, a point and three digits
 abbrev pub figure_text : Bool → ℕ → ℕ → List ℕ
-figure_text negative whole thousandths = sign_text negative ++ decimal whole ++ codes "." ++ three_digits thousandths
+figure_text negative whole thousandths =
+    sign_text negative ++ decimal whole ++ codes "." ++ three_digits thousandths

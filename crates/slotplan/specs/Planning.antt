@@ -2,7 +2,7 @@
 -- more states are reachable than a book holds; or else the horizon has more slots than a plan. Memory may run out only where neither is so.
 use Rattle.std.specs.Prelude.{◌≡◌, ⊤, ◌⊎◌, ℕ, ◌<◌, ◌≤◌, Ok, Err, Result}
 use Rattle.model.specs.Models.{Model}
-use Rattle.pile.specs.Piles.{Piling}
+use Rattle.pilemodel.specs.Piles.{Piling}
 use Rattle.promise.specs.WholePlan.{IsPlanOf}
 use Rattle.promise.specs.declared.causes.Unplanned.{Unplanned}
 use Rattle.promise.specs.declared.causes.Unplanned.TheVariants.{Refused, Memory}
@@ -12,7 +12,7 @@ use Rattle.refusal.specs.declared.Refusal.{Refusal}
 use Rattle.refusal.specs.declared.Refusal.TheVariants.{TooManyStates, HorizonTooLong}
 use Rattle.slotplan.specs.declared.WeighBy.{WeighBy}
 use Rattle.slotplan.specs.declared.WeighBy.TheVariants.{Mean, Worst}
-use Rattle.weighing.specs.Weighings.{Weigh, mean, worst}
+use Rattle.weighmodel.specs.Weighings.{Weigh, mean, worst}
 use Rattle.writeout.specs.Tables.{Writable}
 
 -- the weighing that is asked for

@@ -11,9 +11,11 @@ use Rattle.sitelayout.specs.Layout.{site_words}
 use Rattle.words.specs.Format.{file}
 use Rattle.writeout.specs.Tables.{Writable, out_book}
 
-abbrev pub Holds : Model → Result Book Refusal → Type 0
-Holds m (Ok b) = Writable m × ((vec_items b.codes ≡ codes_of m) × (vec_items b.bytes ≡ file (site_words (out_book m))))
-Holds m (Err r) = (r ≡ TooManyStates) × MoreThan m 4096
+abbrev pub IsWrittenOut : Model → Result Book Refusal → Type 0
+IsWrittenOut m (Ok b) =
+    Writable m × ((vec_items b.codes ≡ codes_of m)
+    × (vec_items b.bytes ≡ file (site_words (out_book m))))
+IsWrittenOut m (Err r) = (r ≡ TooManyStates) × MoreThan m 4096
 
 -- the answer of the test that comes before anything is allocated
 abbrev pub StatesChecked : Model → Result ⊤ Refusal → Type 0

@@ -4,7 +4,7 @@ ghost use Rattle.std.specs.Prelude.{◌≡◌, ◌↔◌, ◌*◌, ◌/◌, ◌%
 
 use std::fmt;
 
-// A number to three decimals, rounded toward zero. The sign is that of the number: what is just below 0 is -0.000.
+/// A number to three decimals, rounded toward zero. The sign is that of the number: what is just below 0 is -0.000.
 #[derive(Clone, Copy, Debug, PartialEq, Eq)]
 pub struct Figure {
     pub negative: bool,
@@ -14,7 +14,7 @@ pub struct Figure {
 }
 
 impl Figure {
-    // The figure of a plan's worth.
+    /// The figure of a plan's worth.
     pub fn of_worth(worth: i64, unit: u8, horizon: usize) -> Figure
         ensures negative { IsTrue result.negative ↔ (worth <ℤ pos 0) }
         ensures whole { result.whole ≡ unsigned_abs worth / parts_of unit horizon }

@@ -10,10 +10,10 @@ use refusal::Refusal;
 use std::alloc::{AllocError, Global};
 use weighing::{Mean, Weighing, Worst};
 
-// How many slots a plan has at most.
+/// How many slots a plan has at most.
 pub const SLOTS: usize = 12;
 
-// Tables of full size: codes, bytes, worths and choices.
+/// Tables of full size: codes, bytes, worths and choices.
 #[derive(Drop)]
 pub struct Room {
     pub codes: Vec<u64>,
@@ -69,14 +69,15 @@ fn planned<P: Pile, W: Weighing>(
     plan_pile(heap, pile, weighing, horizon, &mut tables)
 }
 
-// Plans on the book of a pile under the weighing that is asked for.
+/// Plans on the book of a pile under the weighing that is asked for.
 pub fn plan_by<P: Pile>(
     heap: Global,
     pile: &P,
     weighing: WeighBy,
     horizon: usize,
 ) -> Result<Plan, Unplanned>
-    ensures { PlansOr (weigh_of weighing) (P.Pile.piling pile.now) horizon result }
+    ensures plan { PlansOr (weigh_of weighing) (P.Pile.piling pile.now) horizon result }
+    ensures meaning { P.SiteModel.meaning pile.now ≡ (P.Pile.piling pile.now).model }
 {
     match weighing {
         WeighBy::Mean => planned(heap, pile, &Mean, horizon),

@@ -1,5 +1,5 @@
 // A pile that is written out, in memory.
-ghost use Rattle.slotplan.specs.Writing.{Holds, StatesChecked};
+ghost use Rattle.slotplan.specs.Writing.{IsWrittenOut, StatesChecked};
 ghost use Rattle.std.specs.Prelude.{IfOk, OnErr};
 ghost use Rattle.writeout.specs.Tables.{Writable};
 
@@ -10,13 +10,13 @@ use refusal::Refusal;
 use register::Register;
 use std::alloc::{AllocError, Global};
 
-// How many states a book holds at most.
+/// How many states a book holds at most.
 pub const STATES: usize = 4096;
 
-// How many words it then has at most: the head, two for each state, nine for each action in a state, and the end.
+/// How many words it then has at most: the head, two for each state, nine for each action in a state, and the end.
 pub const WORDS: usize = 1 + 2 * STATES + 8 * 9 * STATES + 1;
 
-// The codes of the reachable states, and the bytes of their site book.
+/// The codes of the reachable states, and the bytes of their site book.
 #[derive(Drop)]
 pub struct Book {
     pub codes: Vec<u64>,
@@ -33,9 +33,9 @@ pub(crate) fn check_states<P: Pile>(pile: &P) -> Result<(), Refusal>
     Ok(())
 }
 
-// Writes the pile out into tables that hold the largest book. Memory may run out only where the pile can be written out.
+/// Writes the pile out into tables that hold the largest book. Memory may run out only where the pile can be written out.
 pub fn written_out<P: Pile>(heap: Global, pile: &P) -> Result<Result<Book, Refusal>, AllocError>
-    ensures holds { IfOk result (Holds (P.SiteModel.meaning pile.now)) }
+    ensures holds { IfOk result (IsWrittenOut (P.SiteModel.meaning pile.now)) }
     ensures memory { OnErr result (Writable (P.SiteModel.meaning pile.now)) }
 {
     if let Err(refusal) = check_states(pile) {

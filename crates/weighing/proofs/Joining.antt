@@ -1,9 +1,9 @@
 -- The mean's joining in 64 bits: with everything held the product and the sum fit, so that the code computes the mean.
 use Rattle.std.proofs.Common.{◌≡◌, ℕ, min, ℤ, pos, ◌+ℤ◌, ◌*ℤ◌, arith, w64, SFits, to_z, of_z}
 use Rattle.std.proofs.lemmas.Int.{ints, to_z-of_z, to_z_pos}
-use Rattle.weighing.specs.Weighings.{held, mean}
-use Rattle.weighing.specs.Lawful.{held_within}
-use Rattle.weighing.proofs.Holding.{within_fits64, times_small}
+use Rattle.weighmodel.specs.Weighings.{held, mean}
+use Rattle.weighmodel.proofs.Lawful.{held_within}
+use Rattle.weighmodel.proofs.Holding.{within_fits64, times_small}
 
 -- a number that went to its bits and back
 abbrev back : ℤ → ℤ

@@ -1,3 +1,2 @@
 pub mod Joining
 pub mod Table
-pub mod Holding

@@ -1,3 +1,1 @@
-pub mod Weighings
 pub mod Discounts
-pub mod Lawful

@@ -3,8 +3,8 @@
 #![tactic(auto)]
 
 ghost use Rattle.std.specs.Prelude.{◌≡◌};
-ghost use Rattle.weighing.specs.Weighings.{LawfulWeigh, Weigh, held, mean, worst};
-ghost use Rattle.weighing.specs.Lawful.{mean_lawful, worst_lawful};
+ghost use Rattle.weighmodel.specs.Weighings.{LawfulWeigh, Weigh, held, mean, worst};
+ghost use Rattle.weighmodel.proofs.Lawful.{mean_lawful, worst_lawful};
 
 mod discounts;
 

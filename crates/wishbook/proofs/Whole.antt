@@ -4,7 +4,7 @@ use Rattle.formula.specs.declared.Node.{Node}
 use Rattle.formula.specs.declared.merging.Merged.{Merged}
 use Rattle.formula.specs.Formulas.{earlier}
 use Rattle.formula.specs.Items.{kept_items}
-use Rattle.formula.specs.Merging.{nodes_of, numbers_of, Merges, Faithful}
+use Rattle.formula.specs.Merging.{nodes_of, numbers_of, Merges, KeepsFormulas}
 use Rattle.formula.specs.Resting.{resting}
 use Rattle.formula.proofs.Faithful.{faithful}
 use Rattle.std.proofs.lemmas.Bool.{and_parts, and_from, ltb-true, lt-ltb, le-leb, lt-leb}
@@ -32,7 +32,7 @@ renamed_roots numbers (w ∷ ws) = ap (λ l. get_or numbers w.node 0 ∷ l) (ren
 items_same : (ns : List Node) (ws : List Wish) → items_over (nodes_of ns) (map (renamed (numbers_of ns)) ws) ≡ items_for ns ws
 items_same ns ws = ap (λ roots. kept_items (nodes_of ns) (resting (nodes_of ns) roots)) (renamed_roots (numbers_of ns) ws)
 
-renamed_good : (ns : List Node) (ws : List Wish) → Faithful ns → all (good_wish (length ns)) ws ≡ true → all (good_wish (length (nodes_of ns))) (map (renamed (numbers_of ns)) ws) ≡ true
+renamed_good : (ns : List Node) (ws : List Wish) → KeepsFormulas ns → all (good_wish (length ns)) ws ≡ true → all (good_wish (length (nodes_of ns))) (map (renamed (numbers_of ns)) ws) ≡ true
 renamed_good ns [] f each = refl
 renamed_good ns (w ∷ ws) f each =
     let parts = and_parts (good_wish (length ns) w) (all (good_wish (length ns)) ws) each in
@@ -47,7 +47,7 @@ whole_sound ns ws e each =
     let f = faithful ns e in
     and_from (earlier (nodes_of ns)) (all (good_wish (length (nodes_of ns))) (map (renamed (numbers_of ns)) ws)) f.still_earlier (renamed_good ns ws f each)
 
-meant_same : (ns : List Node) (ws : List Wish) → Faithful ns → all (good_wish (length ns)) ws ≡ true → meant (nodes_of ns) (map (renamed (numbers_of ns)) ws) ≡ meant ns ws
+meant_same : (ns : List Node) (ws : List Wish) → KeepsFormulas ns → all (good_wish (length ns)) ws ≡ true → meant (nodes_of ns) (map (renamed (numbers_of ns)) ws) ≡ meant ns ws
 meant_same ns [] f each = refl
 meant_same ns (w ∷ ws) f each =
     let parts = and_parts (good_wish (length ns) w) (all (good_wish (length ns)) ws) each in

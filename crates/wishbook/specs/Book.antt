@@ -23,7 +23,8 @@ abbrev pub renamed : List ℕ → Wish → Wish
 renamed numbers w = record { node = slice_index numbers w.node; raised = w.raised }
 
 abbrev pub book_of : Wishes → Book
-book_of f = record { nodes = nodes_of f.nodes; wishes = map (renamed (numbers_of f.nodes)) f.wishes; items = items_for f.nodes f.wishes }
+book_of f =
+    record { nodes = nodes_of f.nodes; wishes = map (renamed (numbers_of f.nodes)) f.wishes; items = items_for f.nodes f.wishes }
 
 -- operands number earlier nodes, and wishes name nodes
 abbrev pub sound : List Node → List Wish → Bool
@@ -40,7 +41,9 @@ meant ns (w ∷ ws) = (slice_index_or (formulas ns) w.node truth, w.raised) ∷ 
 
 -- a book means what its node words say
 abbrev pub SameWishes : Type 0
-SameWishes = (f : Wishes) → IsTrue (valid f) → meant (book_of f).nodes (book_of f).wishes ≡ meant f.nodes f.wishes
+SameWishes =
+    (f : Wishes) → IsTrue (valid f)
+    → meant (book_of f).nodes (book_of f).wishes ≡ meant f.nodes f.wishes
 
 -- some reward rests on the node i: on its own node, and on every operand below that
 abbrev pub RestsOn : Book → ℕ → Type 0
@@ -48,7 +51,9 @@ RestsOn b i = Rests b.nodes (map (λ w. w.node) b.wishes) i
 
 -- a since or a once on which a reward rests, or the operand of a previous on which one rests
 abbrev pub NeedsHeld : Book → ℕ → Type 0
-NeedsHeld b i = (RestsOn b i × IsTrue (lasting (slice_index_or b.nodes i True))) ⊎ ((k : ℕ) × RestsOn b k × (slice_index_or b.nodes k True ≡ Previous i))
+NeedsHeld b i =
+    (RestsOn b i × IsTrue (lasting (slice_index_or b.nodes i True)))
+    ⊎ ((k : ℕ) × RestsOn b k × (slice_index_or b.nodes k True ≡ Previous i))
 
 -- an always on which a reward rests
 abbrev pub NeedsFailed : Book → ℕ → Type 0

@@ -12,4 +12,5 @@ draft_with ns (w ∷ ws) = wishing ns (w ∷ ws)
 
 -- what holds of the node words and wishes that were read
 abbrev pub GoodSoFar : List Node → List Wish → Type 0
-GoodSoFar ns ws = GoodNodes ns × (IsTrue (all (good_wish (length ns)) ws) × (1 ≤ length ws → 1 ≤ length ns))
+GoodSoFar ns ws =
+    GoodNodes ns × (IsTrue (all (good_wish (length ns)) ws) × (1 ≤ length ws → 1 ≤ length ns))

@@ -15,8 +15,10 @@ Pushed xs (Ok x) ys answer = (answer ≡ Ok More) × (ys ≡ xs ++ (x ∷ []))
 Pushed xs (Err r) ys answer = (answer ≡ Err r) × (ys ≡ xs)
 
 -- the same where a full list refuses it first
-abbrev pub Added : {X : Type 0} → ℕ → List X → Result X Refusal → List X → Result Turn Refusal → Type 0
-Added most xs said ys answer = Pushed xs (require (nat_lt (length xs) most) WrongKind said) ys answer
+abbrev pub Added : {X : Type 0} → ℕ → List X → Result X Refusal → List X → Result Turn Refusal
+    → Type 0
+Added most xs said ys answer =
+    Pushed xs (require (nat_lt (length xs) most) WrongKind said) ys answer
 
 -- from the nodes ns to the nodes ms
 abbrev pub NodeAdded : List Node → ℕ → List Node → Result Turn Refusal → Type 0

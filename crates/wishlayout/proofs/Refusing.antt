@@ -4,7 +4,7 @@ use Rattle.std.proofs.lemmas.Bool.{and_parts}
 use Rattle.formula.specs.declared.Node.{Node}
 use Rattle.words.specs.Words.{kind}
 use Rattle.words.specs.Format.{ends}
-use Rattle.words.specs.Refusing.{word_tests, book_tests, first_failing, RefusesRightly}
+use Rattle.words.specs.Refusing.{word_tests, book_tests, first_not_passed, RefusesRightly}
 use Rattle.words.specs.Tests.{all}
 use Rattle.words.proofs.Encoding.{Passes, passes_append}
 use Rattle.words.proofs.Refusing.{refused, why_not, refuses_rightly}
@@ -15,7 +15,7 @@ use Rattle.wishlayout.proofs.OneWords.{wish_written}
 use Rattle.wishlayout.proofs.Way.{word_kept, way_nodes, first_wish, way_wishes}
 
 -- a word after nodes, by its kind
-by_kind : (ns : List Node) (w k : ℕ) → kind w ≡ k → refused (read_word (noding ns) w) ≡ first_failing word_tests (passes (noding ns) w)
+by_kind : (ns : List Node) (w k : ℕ) → kind w ≡ k → refused (read_word (noding ns) w) ≡ first_not_passed word_tests (passes (noding ns) w)
 unfolding read_word
 by_kind ns w zero e = rw e (search rules)
 by_kind ns w (suc zero) e = rw e (search rules)
@@ -30,7 +30,7 @@ by_kind ns w (suc (suc (suc (suc (suc (suc (suc (suc (suc zero))))))))) e = rw e
 by_kind ns w (suc (suc (suc (suc (suc (suc (suc (suc (suc (suc zero)))))))))) e = rw e (search rules)
 by_kind ns w (suc (suc (suc (suc (suc (suc (suc (suc (suc (suc (suc k))))))))))) e = rw e (search rules)
 
-tested : (d : Draft) (w : ℕ) → Good d → refused (read_word d w) ≡ first_failing word_tests (passes d w)
+tested : (d : Draft) (w : ℕ) → Good d → refused (read_word d w) ≡ first_not_passed word_tests (passes d w)
 unfolding read_word
 tested (noding ns) w g = by_kind ns w (kind w) refl
 tested (wishing ns ws) w g = search rules
@@ -45,7 +45,7 @@ unfolding read_word
 end_reads (noding ns) w g m e = search rules
 end_reads (wishing ns ws) w g m e = search rules
 
-judged : (d : Draft) → Good d → may_end d ≡ true → why_not (whole_book d) ≡ first_failing book_tests (closes d)
+judged : (d : Draft) → Good d → may_end d ≡ true → why_not (whole_book d) ≡ first_not_passed book_tests (closes d)
 unfolding whole_book
 judged (noding ns) g e = search rules
 judged (wishing ns ws) g e = search rules

@@ -18,7 +18,8 @@ number_of True = 9
 
 -- the kind of a number, or the refusal where no kind has it
 abbrev pub Decodes : ℕ → Result NodeKind Refusal → Type 0
-Decodes n answer = MatchResult answer (λ kind. number_of kind ≡ n) (λ r. (r ≡ WrongKind) × ((n ≡ 0) ⊎ (9 < n)))
+Decodes n answer =
+    MatchResult answer (λ kind. number_of kind ≡ n) (λ r. (r ≡ WrongKind) × ((n ≡ 0) ⊎ (9 < n)))
 
 -- how many of its lowest bits a word uses
 abbrev pub width_of : NodeKind → ℕ

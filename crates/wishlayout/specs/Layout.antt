@@ -66,4 +66,6 @@ GoodNodes ns = IsTrue (earlier ns) × (IsTrue (all good_label ns) × (length ns 
 
 abbrev pub Good : Draft → Type 0
 Good (noding ns) = GoodNodes ns
-Good (wishing ns ws) = GoodNodes ns × ((1 ≤ length ns) × ((1 ≤ length ws) × ((length ws ≤ 16) × IsTrue (all (good_wish (length ns)) ws))))
+Good (wishing ns ws) =
+    GoodNodes ns
+    × ((1 ≤ length ns) × ((1 ≤ length ws) × ((length ws ≤ 16) × IsTrue (all (good_wish (length ns)) ws))))

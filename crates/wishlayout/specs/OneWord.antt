@@ -24,7 +24,8 @@ abbrev pub wish_word : Wish → ℕ
 wish_word w = 10 * 2 ^ 28 + (w.node + w.raised * 2 ^ 8)
 
 -- the same refusal, or what follows from what was read
-abbrev pub following : {X : Type 0} → Result X Refusal → (X → Result Node Refusal) → Result Node Refusal
+abbrev pub following : {X : Type 0} → Result X Refusal → (X → Result Node Refusal)
+    → Result Node Refusal
 following (Ok x) next = next x
 following (Err r) next = Err r
 
@@ -34,7 +35,8 @@ label_in w = require (field w 5 23 == 0) UnusedBit (Ok (field w 0 5))
 
 -- one operand, in bits 0 to 7
 abbrev pub one_in : ℕ → ℕ → Result ℕ Refusal
-one_in count w = require (field w 8 20 == 0) UnusedBit (require (nat_lt (field w 0 8) count) OutOfRange (Ok (field w 0 8)))
+one_in count w =
+    require (field w 8 20 == 0) UnusedBit (require (nat_lt (field w 0 8) count) OutOfRange (Ok (field w 0 8)))
 
 -- two operands, in bits 0 to 7 and 8 to 15
 abbrev pub two_in : ℕ → ℕ → Result (ℕ × ℕ) Refusal

@@ -11,7 +11,7 @@ use Rattle.refusal.specs.declared.Refusal.TheVariants.{CutOff, WrongEnd}
 use Rattle.words.specs.Words.{word_of, first_word, end_word, kind, words_of, word_at}
 use Rattle.words.specs.Format.{Step, wrong, more, ends, Verdict, stop, Format, closing, ending, run, reading}
 use Rattle.words.specs.Tests.{all, none}
-use Rattle.words.specs.Refusing.{word_tests, book_tests, first_failing, at_end, of_word, of_book, DraftOf, OneDraft, NoFurther, Least, PassesAll, CutsOff, EndsWrong, BookRefused, goes_on, Alike, AlikeAtEnd, RefusesRightly}
+use Rattle.words.specs.Refusing.{word_tests, book_tests, first_not_passed, at_end, of_word, of_book, DraftOf, OneDraft, NoFurther, Least, PassesAll, CutsOff, EndsWrong, BookRefused, goes_on, Alike, AlikeAtEnd, RefusesRightly}
 use Rattle.words.proofs.Reading.{after, run_short, run_four, run_word, ending_place}
 use Rattle.words.proofs.Encoding.{Passes, stop_is_no_book}
 use Rattle.words.proofs.Tests.{same_more, wrong_is_not_more, wrong_is_not_end}
@@ -36,10 +36,10 @@ found P Q (y ∷ ys) x h e =
       | inr n ↦ found P Q ys x parts.1 (sym (cond-false (P y) (Some y) (find P ys) n) ∙ e)
     ]
 
-pub tests_word : (passes : Refusal → Bool) (r : Refusal) → first_failing word_tests passes ≡ Some r → of_word r ≡ true
+pub tests_word : (passes : Refusal → Bool) (r : Refusal) → first_not_passed word_tests passes ≡ Some r → of_word r ≡ true
 tests_word passes r e = found (λ r. not (passes r)) of_word word_tests r refl e
 
-pub tests_book : (passes : Refusal → Bool) (r : Refusal) → first_failing book_tests passes ≡ Some r → of_book r ≡ true
+pub tests_book : (passes : Refusal → Bool) (r : Refusal) → first_not_passed book_tests passes ≡ Some r → of_book r ≡ true
 tests_book passes r e = found (λ r. not (passes r)) of_book book_tests r refl e
 
 -- the first four bytes make the first word
@@ -316,24 +316,24 @@ module _ {S B : Type 0} (f : Format S B) (Good : S → Type 0) (written : S → 
             ap (λ u. f.step u (word_at bytes p)) (same_end (written s) f.start s way.0 (leads s is.good) way.1.0) ∙ way.1.1
 
         module _ (may_end : S → Bool) (passes : S → ℕ → Refusal → Bool) (closes : S → Refusal → Bool)
-            (tested : (s : S) (w : ℕ) → Good s → refused (f.step s w) ≡ first_failing word_tests (passes s w))
+            (tested : (s : S) (w : ℕ) → Good s → refused (f.step s w) ≡ first_not_passed word_tests (passes s w))
             (ends_where : (s : S) (w : ℕ) → Good s → f.step s w ≡ ends → (may_end s ≡ true) × (kind w ≡ 15))
             (end_reads : (s : S) (w : ℕ) → Good s → may_end s ≡ true → kind w ≡ 15 → f.step s w ≡ ends)
-            (judged : (s : S) → Good s → may_end s ≡ true → why_not (f.finish s) ≡ first_failing book_tests (closes s))
+            (judged : (s : S) → Good s → may_end s ≡ true → why_not (f.finish s) ≡ first_not_passed book_tests (closes s))
           where
             -- reading stops at a word that is refused, at an end word, or where no word is
 
             record AtWord (bytes : List ℕ) (r : Refusal) (p : ℕ) (s : S) : Type 0 where
               there : 4 * (p + 1) ≤ length bytes
               refuses_it : f.step s (word_at bytes p) ≡ wrong r
-              first : first_failing word_tests (passes s (word_at bytes p)) ≡ Some r
+              first : first_not_passed word_tests (passes s (word_at bytes p)) ≡ Some r
               own : of_word r ≡ true
 
             record AtEnd (bytes : List ℕ) (r : Refusal) (p : ℕ) (s : S) : Type 0 where
               there : 4 * (p + 1) ≤ length bytes
               may : may_end s ≡ true
               is_end : kind (word_at bytes p) ≡ 15
-              by : ((r ≡ WrongEnd) × ((word_at bytes p ≡ end_word p → ⊥) ⊎ (4 * (p + 1) < length bytes))) ⊎ ((word_at bytes p ≡ end_word p) × (length bytes ≡ 4 * (p + 1)) × (first_failing book_tests (closes s) ≡ Some r) × (of_book r ≡ true))
+              by : ((r ≡ WrongEnd) × ((word_at bytes p ≡ end_word p → ⊥) ⊎ (4 * (p + 1) < length bytes))) ⊎ ((word_at bytes p ≡ end_word p) × (length bytes ≡ 4 * (p + 1)) × (first_not_passed book_tests (closes s) ≡ Some r) × (of_book r ≡ true))
 
             data Cause (bytes : List ℕ) (r : Refusal) (p : ℕ) (s : S) : Type 0 where
               no_word : length bytes < 4 * (p + 1) → r ≡ CutOff → Cause bytes r p s
@@ -344,7 +344,7 @@ module _ {S B : Type 0} (f : Format S B) (Good : S → Type 0) (written : S → 
             left_of bytes p = length-drop (4 * p) bytes
 
             end_by : (bytes : List ℕ) (r : Refusal) (p : ℕ) (s : S) → Good s → may_end s ≡ true → kind (word_at bytes p) ≡ 15 → 4 * (p + 1) ≤ length bytes → ending (f.finish s) p (word_at bytes p) (none (drop 4 (drop (4 * p) bytes))) ≡ stop r p
-                → ((r ≡ WrongEnd) × ((word_at bytes p ≡ end_word p → ⊥) ⊎ (4 * (p + 1) < length bytes))) ⊎ ((word_at bytes p ≡ end_word p) × (length bytes ≡ 4 * (p + 1)) × (first_failing book_tests (closes s) ≡ Some r) × (of_book r ≡ true))
+                → ((r ≡ WrongEnd) × ((word_at bytes p ≡ end_word p → ⊥) ⊎ (4 * (p + 1) < length bytes))) ⊎ ((word_at bytes p ≡ end_word p) × (length bytes ≡ 4 * (p + 1)) × (first_not_passed book_tests (closes s) ≡ Some r) × (of_book r ≡ true))
             unfolding EndedBy
             end_by bytes r p s good may is here e =
                 let after_it = length-drop 4 (drop (4 * p) bytes) in
@@ -423,7 +423,7 @@ module _ {S B : Type 0} (f : Format S B) (Good : S → Type 0) (written : S → 
             book_refused : BookRefused f Good written may_end closes
             book_refused bytes r p s e own is = from (cause bytes r p s e is)
               where
-                from : Cause bytes r p s → (may_end s ≡ true) × (word_at bytes p ≡ end_word p) × (length bytes ≡ 4 * (p + 1)) × (first_failing book_tests (closes s) ≡ Some r)
+                from : Cause bytes r p s → (may_end s ≡ true) × (word_at bytes p ≡ end_word p) × (length bytes ≡ 4 * (p + 1)) × (first_not_passed book_tests (closes s) ≡ Some r)
                 from (no_word few cut) = absurd (true≢false (sym own ∙ ap of_book cut))
                 from (a_word at) = absurd (true≢false (sym at.own ∙ no_word_of r own))
                 from (an_end at) = elim (at.by) [ inl wrong_end ↦ absurd (true≢false (sym own ∙ ap of_book wrong_end.0)) | inr right ↦ (at.may, right.0, right.1, right.2) ]

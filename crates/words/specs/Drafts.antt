@@ -8,13 +8,15 @@ use Rattle.words.specs.declared.reader.Turn.{Turn}
 use Rattle.words.specs.declared.reader.Turn.TheVariants.{More, End}
 
 -- the answer of a draft that followed s, to a word that does st to s; x is the draft after it
-abbrev pub Stepped : {X S : Type 0} → (X → S → Type 0) → S → Step S → X → Result Turn Refusal → Type 0
+abbrev pub Stepped : {X S : Type 0} → (X → S → Type 0) → S → Step S → X → Result Turn Refusal
+    → Type 0
 Stepped Follows s (wrong r) x answer = answer ≡ Err r
 Stepped Follows s (more t) x answer = (answer ≡ Ok More) × Follows x t
 Stepped Follows s ends x answer = (answer ≡ Ok End) × Follows x s
 
 -- the answer where the whole comes to b, or is refused
-abbrev pub Finished : {K B : Type 0} → (K → B → Type 0) → Result B Refusal → Result K Refusal → Type 0
+abbrev pub Finished : {K B : Type 0} → (K → B → Type 0) → Result B Refusal → Result K Refusal
+    → Type 0
 Finished Means (Ok b) (Ok k) = Means k b
 Finished Means (Ok b) (Err r) = ⊥
 Finished Means (Err r) answer = answer ≡ Err r

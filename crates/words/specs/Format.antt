@@ -72,7 +72,9 @@ file ws = bytes_of (ws ++ (end_word (length ws) ∷ []))
 
 -- a refusal's place is right: the words before it, alone, run out exactly there
 abbrev pub PlacesRight : {S B : Type 0} → Format S B → Type 0
-PlacesRight f = (bytes : List ℕ) (r : Refusal) (p : ℕ) → reading f bytes ≡ stop r p → reading f (take (4 * p) bytes) ≡ stop CutOff p
+PlacesRight f =
+    (bytes : List ℕ) (r : Refusal) (p : ℕ) → reading f bytes ≡ stop r p
+    → reading f (take (4 * p) bytes) ≡ stop CutOff p
 
 -- encoding a valid book and reading it gives that book back
 abbrev pub ReadsBack : {S B : Type 0} → Format S B → (B → Type 0) → (B → List ℕ) → Type 0
@@ -80,10 +82,13 @@ ReadsBack {S} {B} f Valid words = (b : B) → Valid b → reading f (file (words
 
 -- whatever is accepted is the encoding of the book that was read, and that book is valid
 abbrev pub OnlyEncodings : {S B : Type 0} → Format S B → (B → Type 0) → (B → List ℕ) → Type 0
-OnlyEncodings {S} {B} f Valid words = (bytes : List ℕ) (b : B) → Bytes bytes → reading f bytes ≡ got b → Valid b × (bytes ≡ file (words b))
+OnlyEncodings {S} {B} f Valid words =
+    (bytes : List ℕ) (b : B) → Bytes bytes → reading f bytes ≡ got b
+    → Valid b × (bytes ≡ file (words b))
 
 -- the three laws of a reader
-pub record Faithful {S B : Type 0} (f : Format S B) (Valid : B → Type 0) (words : B → List ℕ) : Type 0 where
+pub record Faithful {S B : Type 0} (f : Format S B) (Valid : B → Type 0)
+    (words : B → List ℕ) : Type 0 where
   pub places : PlacesRight f
   pub back : ReadsBack f Valid words
   pub only : OnlyEncodings f Valid words

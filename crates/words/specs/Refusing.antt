@@ -16,8 +16,8 @@ abbrev pub book_tests : List Refusal
 book_tests = NoWait ∷ TooManyItems ∷ []
 
 -- the first of the tests, in their order, that is not passed
-abbrev pub first_failing : List Refusal → (Refusal → Bool) → Option Refusal
-first_failing tests passes = find (λ r. not (passes r)) tests
+abbrev pub first_not_passed : List Refusal → (Refusal → Bool) → Option Refusal
+first_not_passed tests passes = find (λ r. not (passes r)) tests
 
 -- refusals of an end word that may come; on them bears whether bytes follow
 abbrev pub at_end : Refusal → Bool
@@ -38,53 +38,72 @@ of_book TooManyItems = true
 of_book r = false
 
 -- s is the draft of the first p words of a file
-pub record DraftOf {S : Type 0} (Good : S → Type 0) (written : S → List ℕ) (bytes : List ℕ) (p : ℕ) (s : S) : Type 0 where
+pub record DraftOf {S : Type 0} (Good : S → Type 0) (written : S → List ℕ) (bytes : List ℕ) (p : ℕ)
+    (s : S) : Type 0 where
   pub good : Good s
   pub there : p ≤ length (words_of bytes)
   pub words : written s ≡ take p (words_of bytes)
 
 -- where reading stops, the words before are those of a good draft
 abbrev pub Begins : {S B : Type 0} → Format S B → (S → Type 0) → (S → List ℕ) → Type 0
-Begins {S} f Good written = (bytes : List ℕ) (r : Refusal) (p : ℕ) → reading f bytes ≡ stop r p → (s : S) × DraftOf Good written bytes p s
+Begins {S} f Good written =
+    (bytes : List ℕ) (r : Refusal) (p : ℕ) → reading f bytes ≡ stop r p
+    → (s : S) × DraftOf Good written bytes p s
 
 -- words have one draft at most
 abbrev pub OneDraft : {S : Type 0} → (S → Type 0) → (S → List ℕ) → Type 0
-OneDraft {S} Good written = (bytes : List ℕ) (p : ℕ) (s t : S) → DraftOf Good written bytes p s → DraftOf Good written bytes p t → s ≡ t
+OneDraft {S} Good written =
+    (bytes : List ℕ) (p : ℕ) (s t : S) → DraftOf Good written bytes p s
+    → DraftOf Good written bytes p t → s ≡ t
 
 -- with the word that is refused they are those of none, and it is no end word that may come
-abbrev pub NoFurther : {S B : Type 0} → Format S B → (S → Type 0) → (S → List ℕ) → (S → Bool) → Type 0
+abbrev pub NoFurther : {S B : Type 0} → Format S B → (S → Type 0) → (S → List ℕ) → (S → Bool)
+    → Type 0
 NoFurther {S} f Good written may_end =
-    (bytes : List ℕ) (r : Refusal) (p : ℕ) (s : S) → reading f bytes ≡ stop r p → IsTrue (of_word r) → DraftOf Good written bytes p s
-    → ((t : S) → DraftOf Good written bytes (p + 1) t → ⊥) × (IsTrue (may_end s) → kind (word_at bytes p) ≢ 15)
+    (bytes : List ℕ) (r : Refusal) (p : ℕ) (s : S) → reading f bytes ≡ stop r p → IsTrue (of_word r)
+    → DraftOf Good written bytes p s
+    → ((t : S) → DraftOf Good written bytes (p + 1) t → ⊥)
+    × (IsTrue (may_end s) → kind (word_at bytes p) ≢ 15)
 
 -- the refusal is the first test that the word does not pass, after the draft of the words before
-abbrev pub Least : {S B : Type 0} → Format S B → (S → Type 0) → (S → List ℕ) → (S → ℕ → Refusal → Bool) → Type 0
+abbrev pub Least : {S B : Type 0} → Format S B → (S → Type 0) → (S → List ℕ)
+    → (S → ℕ → Refusal → Bool) → Type 0
 Least {S} f Good written passes =
-    (bytes : List ℕ) (r : Refusal) (p : ℕ) (s : S) → reading f bytes ≡ stop r p → IsTrue (of_word r) → DraftOf Good written bytes p s
-    → (p < length (words_of bytes)) × (first_failing word_tests (passes s (word_at bytes p)) ≡ Some r)
+    (bytes : List ℕ) (r : Refusal) (p : ℕ) (s : S) → reading f bytes ≡ stop r p → IsTrue (of_word r)
+    → DraftOf Good written bytes p s
+    → (p < length (words_of bytes))
+    × (first_not_passed word_tests (passes s (word_at bytes p)) ≡ Some r)
 
 -- a word that is read passes them all
-abbrev pub PassesAll : {S : Type 0} → (S → Type 0) → (S → List ℕ) → (S → ℕ → Refusal → Bool) → Type 0
+abbrev pub PassesAll : {S : Type 0} → (S → Type 0) → (S → List ℕ) → (S → ℕ → Refusal → Bool)
+    → Type 0
 PassesAll {S} Good written passes =
-    (bytes : List ℕ) (p : ℕ) (s t : S) → DraftOf Good written bytes p s → DraftOf Good written bytes (p + 1) t
-    → first_failing word_tests (passes s (word_at bytes p)) ≡ None
+    (bytes : List ℕ) (p : ℕ) (s t : S) → DraftOf Good written bytes p s
+    → DraftOf Good written bytes (p + 1) t
+    → first_not_passed word_tests (passes s (word_at bytes p)) ≡ None
 
 -- CutOff: the next word is not there whole
 abbrev pub CutsOff : {S B : Type 0} → Format S B → Type 0
 CutsOff f = (bytes : List ℕ) (p : ℕ) → reading f bytes ≡ stop CutOff p → length bytes < 4 * (p + 1)
 
 -- WrongEnd: an end word that may come has another number than that of the words before it, or bytes follow it
-abbrev pub EndsWrong : {S B : Type 0} → Format S B → (S → Type 0) → (S → List ℕ) → (S → Bool) → Type 0
+abbrev pub EndsWrong : {S B : Type 0} → Format S B → (S → Type 0) → (S → List ℕ) → (S → Bool)
+    → Type 0
 EndsWrong {S} f Good written may_end =
-    (bytes : List ℕ) (p : ℕ) (s : S) → reading f bytes ≡ stop WrongEnd p → DraftOf Good written bytes p s
-    → IsTrue (may_end s) × (kind (word_at bytes p) ≡ 15) × ((word_at bytes p ≢ end_word p) ⊎ (4 * (p + 1) < length bytes))
+    (bytes : List ℕ) (p : ℕ) (s : S) → reading f bytes ≡ stop WrongEnd p
+    → DraftOf Good written bytes p s
+    → IsTrue (may_end s) × (kind (word_at bytes p) ≡ 15)
+    × ((word_at bytes p ≢ end_word p) ⊎ (4 * (p + 1) < length bytes))
 
 -- the whole is refused at an end word that may come and is right, with nothing after it; the refusal is the first test that the
 -- whole fails
-abbrev pub BookRefused : {S B : Type 0} → Format S B → (S → Type 0) → (S → List ℕ) → (S → Bool) → (S → Refusal → Bool) → Type 0
+abbrev pub BookRefused : {S B : Type 0} → Format S B → (S → Type 0) → (S → List ℕ) → (S → Bool)
+    → (S → Refusal → Bool) → Type 0
 BookRefused {S} f Good written may_end closes =
-    (bytes : List ℕ) (r : Refusal) (p : ℕ) (s : S) → reading f bytes ≡ stop r p → IsTrue (of_book r) → DraftOf Good written bytes p s
-    → IsTrue (may_end s) × (word_at bytes p ≡ end_word p) × (length bytes ≡ 4 * (p + 1)) × (first_failing book_tests (closes s) ≡ Some r)
+    (bytes : List ℕ) (r : Refusal) (p : ℕ) (s : S) → reading f bytes ≡ stop r p → IsTrue (of_book r)
+    → DraftOf Good written bytes p s
+    → IsTrue (may_end s) × (word_at bytes p ≡ end_word p) × (length bytes ≡ 4 * (p + 1))
+    × (first_not_passed book_tests (closes s) ≡ Some r)
 
 -- bytes follow the word at place p
 abbrev pub goes_on : List ℕ → ℕ → Bool
@@ -103,7 +122,8 @@ AlikeAtEnd f =
     → reading f b ≡ stop r p
 
 -- the laws of a reader's refusals
-pub record RefusesRightly {S B : Type 0} (f : Format S B) (Good : S → Type 0) (written : S → List ℕ) (may_end : S → Bool) (passes : S → ℕ → Refusal → Bool) (closes : S → Refusal → Bool) : Type 0 where
+pub record RefusesRightly {S B : Type 0} (f : Format S B) (Good : S → Type 0) (written : S → List ℕ)
+    (may_end : S → Bool) (passes : S → ℕ → Refusal → Bool) (closes : S → Refusal → Bool) : Type 0 where
   pub begins : Begins f Good written
   pub one_draft : OneDraft Good written
   pub no_further : NoFurther f Good written may_end

@@ -7,7 +7,8 @@ word_of a b c d = a + 256 * b + 65536 * c + 16777216 * d
 
 -- the word that a list of bytes begins with
 abbrev pub first_word : List ℕ → ℕ
-first_word bytes = word_of (slice_index bytes 0) (slice_index bytes 1) (slice_index bytes 2) (slice_index bytes 3)
+first_word bytes =
+    word_of (slice_index bytes 0) (slice_index bytes 1) (slice_index bytes 2) (slice_index bytes 3)
 
 -- the bits of a word from the bit low on, width of them
 abbrev pub field : ℕ → ℕ → ℕ → ℕ
@@ -24,7 +25,8 @@ end_word count = 15 * 2 ^ 28 + count
 -- the bytes of words, one after another
 abbrev pub bytes_of : List ℕ → List ℕ
 bytes_of [] = []
-bytes_of (w ∷ ws) = w % 256 ∷ (w / 256 % 256 ∷ (w / 65536 % 256 ∷ (w / 16777216 % 256 ∷ bytes_of ws)))
+bytes_of (w ∷ ws) =
+    w % 256 ∷ (w / 256 % 256 ∷ (w / 65536 % 256 ∷ (w / 16777216 % 256 ∷ bytes_of ws)))
 
 -- the words that are there whole in a file
 abbrev pub words_of : List ℕ → List ℕ

@@ -5,7 +5,7 @@ use Rattle.std.specs.List.{Contains}
 use Rattle.std.proofs.lemmas.List.{length_push}
 use Rattle.model.specs.Histories.{final, Shown, History, begun, onward, targets_of}
 use Rattle.model.specs.Models.{Model}
-use Rattle.weighing.specs.Weighings.{Weigh, held}
+use Rattle.weighmodel.specs.Weighings.{Weigh, held}
 use Rattle.worth.specs.Worths.{joined, own_part}
 use Rattle.worth.specs.Policies.{Policy, LedTo, led_start, led_on, Admissible, value_after, earned_after, Best}
 use Rattle.worth.proofs.Joining.{joined_same}

@@ -4,7 +4,7 @@ use Rattle.std.proofs.Common.{◌≡◌, ℕ, suc, List, [], ◌∷◌, ◌++◌
 use Rattle.std.specs.List.{Contains}
 use Rattle.model.specs.declared.Outcome.{Outcome}
 use Rattle.model.specs.Histories.{targets_of, along}
-use Rattle.weighing.specs.Weighings.{Weigh, LawfulWeigh}
+use Rattle.weighmodel.specs.Weighings.{Weigh, LawfulWeigh}
 use Rattle.worth.specs.Worths.{joined_from}
 
 pub has_first : (t : ℕ) (ts : List ℕ) → Contains (t ∷ ts) t

@@ -8,7 +8,7 @@ use Rattle.std.proofs.lemmas.List.Sums.{sum_by-cons}
 use Rattle.model.specs.declared.Outcome.{Outcome}
 use Rattle.model.specs.Histories.{targets_of}
 use Rattle.model.specs.Models.{total}
-use Rattle.weighing.specs.Weighings.{Weigh, held, most, mean, worst, free_mean, free_worst}
+use Rattle.weighmodel.specs.Weighings.{Weigh, held, most, mean, worst, free_mean, free_worst}
 use Rattle.worth.specs.Worths.{joined_from, joined}
 use Rattle.worth.proofs.Joining.{has_first, has_later}
 use Rattle.worth.proofs.Sizes.{abs_sum, abs_times, abs_min, abs_first, held_small}

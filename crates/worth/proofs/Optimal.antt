@@ -5,9 +5,9 @@ use lib.Signed.{≤ℤ_refl}
 use Rattle.std.proofs.lemmas.List.{length_push}
 use Rattle.model.specs.Histories.{final, Shown, History, begun, onward, Unfolds}
 use Rattle.model.specs.Models.{Model}
-use Rattle.weighing.specs.Lawful.{held_raises, add_raises}
-use Rattle.weighing.proofs.Holding.{le_through}
-use Rattle.weighing.specs.Weighings.{Weigh, LawfulWeigh, held}
+use Rattle.weighmodel.proofs.Lawful.{held_raises, add_raises}
+use Rattle.weighmodel.proofs.Holding.{le_through}
+use Rattle.weighmodel.specs.Weighings.{Weigh, LawfulWeigh, held}
 use Rattle.worth.specs.declared.Pick.{Pick}
 use Rattle.worth.specs.Worths.{joined, own_part, summed, pick_at, worth_by, worth_of, action_of}
 use Rattle.worth.specs.Policies.{Policy, LedTo, led_start, led_on, Admissible, value_after, earned_after, Best, planned}

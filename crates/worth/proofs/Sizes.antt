@@ -4,7 +4,7 @@ use Rattle.std.proofs.Common.{◌≡◌, ℕ, suc, ◌+◌, ◌-◌, ◌*◌, �
 use Rattle.std.specs.Int.{int_min}
 use Rattle.std.proofs.lemmas.Int.{ints, clamps}
 use Rattle.weighing.specs.Discounts.{discount_of}
-use Rattle.weighing.specs.Weighings.{Weigh, most, held}
+use Rattle.weighmodel.specs.Weighings.{Weigh, most, held}
 use Rattle.weighing.proofs.Table.{discounts_ruled}
 use Rattle.worth.specs.Worths.{own_part}
 

@@ -4,7 +4,7 @@ use native.Mathlib.Nat.{pow-zero}
 use Rattle.model.specs.Models.{Model, Lawful}
 use Rattle.model.proofs.Laws.{target_state}
 use Rattle.weighing.specs.Discounts.{discount_of}
-use Rattle.weighing.specs.Weighings.{Weigh, held, mean, worst, free_mean, free_worst}
+use Rattle.weighmodel.specs.Weighings.{Weigh, held, mean, worst, free_mean, free_worst}
 use Rattle.worth.specs.Worths.{joined, own_part, summed, pick_at, worth_by, worth_of}
 use Rattle.worth.specs.Unheld.{NothingHeldBack}
 use Rattle.worth.proofs.Joins.{Frees, mean_size, mean_frees, worst_size, worst_frees}

@@ -4,7 +4,7 @@ use Rattle.std.specs.Prelude.{◌≡◌, ℕ, zero, suc, ◌-◌, ◌≤◌, IsT
 use Rattle.std.specs.List.{Contains}
 use Rattle.model.specs.Histories.{final, targets_of, Shown}
 use Rattle.model.specs.Models.{Model}
-use Rattle.weighing.specs.Weighings.{Weigh, held}
+use Rattle.weighmodel.specs.Weighings.{Weigh, held}
 use Rattle.worth.specs.Worths.{joined, own_part, choice_of}
 
 -- an action for each history

@@ -2,7 +2,7 @@
 use Rattle.std.specs.Prelude.{◌≡◌, ℕ, ◌≤◌, IsTrue}
 use Rattle.model.specs.Models.{Model, Lawful}
 use Rattle.weighing.specs.Discounts.{discount_of}
-use Rattle.weighing.specs.Weighings.{Weigh, mean, worst, free_mean, free_worst}
+use Rattle.weighmodel.specs.Weighings.{Weigh, mean, worst, free_mean, free_worst}
 use Rattle.worth.specs.Worths.{worth_by, worth_of}
 
 abbrev pub NeverHeld : Weigh → Weigh → Type 0

@@ -4,7 +4,7 @@
 use Rattle.std.specs.Prelude.{ℕ, zero, suc, ◌-◌, ◌*◌, ◌^◌, Bool, if◌then◌else◌, List, ℤ, pos, ◌+ℤ◌, ◌*ℤ◌, Some, None, Option, fold, int_lt}
 use Rattle.model.specs.declared.Outcome.{Outcome}
 use Rattle.model.specs.Models.{Model}
-use Rattle.weighing.specs.Weighings.{Weigh, held}
+use Rattle.weighmodel.specs.Weighings.{Weigh, held}
 use Rattle.worth.specs.declared.Pick.{Pick}
 
 -- the values of outcomes joined in order, after the value so far

@@ -10,7 +10,7 @@ use Rattle.register.specs.Register.{keys_of}
 use Rattle.model.specs.Models.{Model, Lawful}
 use Rattle.pen.specs.declared.Pen.{Pen}
 use Rattle.pen.specs.Bytes.{zero_padded, LaidIn}
-use Rattle.pen.specs.Laid.{Laid, Adds, counted}
+use Rattle.pen.specs.Pens.{HasWritten, Adds, counted}
 use Rattle.reach.specs.Search.{codes_of}
 use Rattle.reach.proofs.Adding.{length-keys_of}
 use Rattle.reach.proofs.Searching.{search_lists, search_exceeds, lists_states, lists_targets}
@@ -29,8 +29,8 @@ use Rattle.writeout.proofs.Copying.{book_copies}
 
 -- head, marks and cells are the words of the book
 pub laid_book_is : (m : Model) (codes : List ℕ) (states labels actions : ℕ) (p0 p1 p2 p3 : Pen) → states ≡ length codes → labels ≡ m.labels → actions ≡ m.actions
-    → Laid [] p0 → Adds (word_of_head states labels actions ∷ []) p0 p1 → Adds (mark_words (map (mark_of m) codes)) p1 p2 → Adds (cell_words m.actions 0 (cells_of m codes codes)) p2 p3
-    → Laid (site_words (book_of m codes)) p3
+    → HasWritten [] p0 → Adds (word_of_head states labels actions ∷ []) p0 p1 → Adds (mark_words (map (mark_of m) codes)) p1 p2 → Adds (cell_words m.actions 0 (cells_of m codes codes)) p2 p3
+    → HasWritten (site_words (book_of m codes)) p3
 laid_book_is m codes states labels actions p0 p1 p2 p3 es el ea none head marks cells =
     let said : word_of_head states labels actions ≡ word_of_head (length (map (mark_of m) codes)) m.labels m.actions =
     ap (λ n. word_of_head n labels actions) (es ∙ sym (length-map codes (mark_of m))) ∙ ap (λ n. word_of_head (length (map (mark_of m) codes)) n actions) el ∙ ap (word_of_head (length (map (mark_of m) codes)) m.labels) ea in
@@ -55,7 +55,7 @@ laid_bytes ws (Some n) bs k h e = h.1.1
 laid_bytes ws None bs k h e = absurd (omega (arith, h, (counted_some (length bs) ws k (sym e)).1))
 
 -- what a count says of the table
-pub written_book : (b : Site) (p : Pen) (space : ℕ) → Laid (site_words b ++ (end_word (length (site_words b)) ∷ [])) p → length p.bytes.now ≡ space → (r : Option ℕ) → r ≡ words_in space b → (x : List ℕ) → x ≡ p.bytes.now → OnSome r (x ≡ zero_padded (length x) (file (site_words b)))
+pub written_book : (b : Site) (p : Pen) (space : ℕ) → HasWritten (site_words b ++ (end_word (length (site_words b)) ∷ [])) p → length p.bytes.now ≡ space → (r : Option ℕ) → r ≡ words_in space b → (x : List ℕ) → x ≡ p.bytes.now → OnSome r (x ≡ zero_padded (length x) (file (site_words b)))
 written_book b p space laid size None e x x-is = tt
 written_book b p space laid size (Some k) e x x-is =
     subst (λ l. l ≡ zero_padded (length l) (file (site_words b))) (sym x-is)

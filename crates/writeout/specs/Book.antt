@@ -52,7 +52,8 @@ abbrev pub action_words : Model → List ℕ → ℕ → ℕ → ℕ → List �
 action_words m codes place c a = cell_word m.actions (place * m.actions + a) (cell_of m codes c a)
 
 abbrev pub state_words : Model → List ℕ → ℕ → ℕ → List ℕ
-state_words m codes place c = cell_words m.actions (place * m.actions) (cells_below m codes c m.actions)
+state_words m codes place c =
+    cell_words m.actions (place * m.actions) (cells_below m codes c m.actions)
 
 -- all actions in all listed states
 abbrev pub table_words : Model → List ℕ → List ℕ

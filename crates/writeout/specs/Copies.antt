@@ -20,11 +20,14 @@ pub record Copies (m : Model) (codes : List ℕ) (b : Site) : Type 0 where
   pub actions : (site_model b).actions ≡ m.actions
   pub start : slice_index_or codes 0 0 ≡ m.start
   pub masks : (i : ℕ) → i < length codes → (site_model b).mask i ≡ m.mask (slice_index codes i)
-  pub rewards : (i : ℕ) → i < length codes → (site_model b).reward i ≡ m.reward (slice_index codes i)
+  pub rewards : (i : ℕ) → i < length codes
+      → (site_model b).reward i ≡ m.reward (slice_index codes i)
   pub origins : (i : ℕ) → i < length codes → origin_of b i ≡ m.site (slice_index codes i)
-  pub offers : (i a : ℕ) → i < length codes → (site_model b).offered i a ≡ m.offered (slice_index codes i) a
+  pub offers : (i a : ℕ) → i < length codes
+      → (site_model b).offered i a ≡ m.offered (slice_index codes i) a
   pub moves : (i a : ℕ) → i < length codes
-      → map (outcome_in_model codes) ((site_model b).outcomes i a) ≡ m.outcomes (slice_index codes i) a
+      → map (outcome_in_model codes) ((site_model b).outcomes i a)
+      ≡ m.outcomes (slice_index codes i) a
 
 -- the book as a model whose site states are the origins
 abbrev pub by_origin : Site → Model

@@ -2,7 +2,7 @@
 use Rattle.std.specs.Prelude.{◌≡◌, ℕ, ◌+◌, ◌*◌, ◌<◌, ◌≤◌, Bool, List, [], ◌∷◌, ◌++◌, length, Ok, Err, Option, Result, nat_le}
 use Rattle.model.specs.Models.{Model}
 use Rattle.pen.specs.Bytes.{zero_padded}
-use Rattle.pen.specs.Laid.{counted}
+use Rattle.pen.specs.Pens.{counted}
 use Rattle.reach.specs.Adding.{room_in}
 use Rattle.reach.specs.Reached.{ListsReached, MoreThan}
 use Rattle.reach.specs.Search.{codes_of}

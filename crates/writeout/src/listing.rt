@@ -2,7 +2,7 @@
 ghost use Rattle.std.specs.Prelude.{◌≡◌, ◌<◌, ◌≤◌, [], ◌∷◌, length, map, nat_eq, OnSome, pos, ◌+ℤ◌, unsigned_abs};
 ghost use Rattle.bounded.specs.Listed.{listed};
 ghost use Rattle.pen.specs.Bytes.{zero_padded};
-ghost use Rattle.pen.specs.Laid.{Adds};
+ghost use Rattle.pen.specs.Pens.{Adds};
 ghost use Rattle.register.specs.Keys.{place_of};
 ghost use Rattle.register.specs.Register.{keys_of};
 ghost use Rattle.sitelayout.specs.Layout.{mark_words, move_words, site_words};

@@ -1,7 +1,8 @@
 use Rattle.std.proofs.Common.{◌∷◌, [], sym, ap, ◌∙◌, refl}
 use Rattle.layer.specs.InMemory.{meaning_of}
-use Rattle.pile.specs.Piles.{floor_over}
-use Rattle.pile.specs.Pushing.{floor_in, over_in}
+use Rattle.pilemodel.specs.Piles.{floor_over}
+use Rattle.pilemodel.specs.Raised.{floor_in}
+use Rattle.pilemodel.proofs.Pushing.{over_in}
 use Rattle.pile.specs.Stacks.{floor_refusal}
 use Rattle.pile.proofs.Stacking.{told}
 use Rattle.pile.proofs.laying.refusals.Goals as goal

@@ -1,7 +1,7 @@
 use Rattle.std.proofs.Common.{sym, ap, ◌∙◌}
 use Rattle.layermodel.proofs.Bits.{memory_tells, wishes_show, labels_stay}
-use Rattle.pile.proofs.Keeping.{laid_keeps}
-use Rattle.pile.proofs.Telling.{bits_tell}
+use Rattle.pilemodel.proofs.Keeping.{laid_keeps}
+use Rattle.pilemodel.proofs.Telling.{bits_tell}
 use Rattle.pile.proofs.truthful.truthful_start.Goals as goal
 
 pub returns : goal.returns

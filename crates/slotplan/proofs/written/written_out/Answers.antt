@@ -1,15 +1,16 @@
-use Rattle.std.proofs.Common.{◌≡◌, ◌*◌, length, take, ap, ◌∙◌, arith, rules}
+use Rattle.std.proofs.Common.{◌≡◌, ◌*◌, length, take, sym, ap, ◌∙◌, arith, rules}
 use Rattle.std.proofs.lemmas.List.{take_at}
+use Rattle.writeout.proofs.Outcomes.{wrote}
 use Rattle.promise.proofs.Promising.{on_meaning}
-use Rattle.slotplan.proofs.Holding.{told, held, passed}
+use Rattle.slotplan.proofs.Holding.{held, passed}
 use Rattle.slotplan.proofs.written.written_out.Goals as goal
 
 pub overflow_mul-written : goal.overflow_mul-written
 overflow_mul-written g c =
     let m = g.P.SiteModel.meaning c.args.pile.now in
     let size : length c.as_mut_slice-2.result.now ≡ 1212424 = search rules in
-    let t = told m c.in-Ok.written c.write_pile.result _ _ c.in-Ok.is c.write_pile.ensures.answer in
-    omega (arith, size, t.1.1.1)
+    let out = wrote m _ _ c.in-Ok.written (sym c.write_pile.ensures.answer ∙ c.in-Ok.is) in
+    omega (arith, size, out.room, out.words)
 
 pub returns-in-Ok-clause-holds : goal.returns-in-Ok-clause-holds
 returns-in-Ok-clause-holds g c =

@@ -1,6 +1,6 @@
 use Rattle.std.proofs.Common.{◌≡◌, ℕ, pos, get_or, sym, ap, ◌∙◌, w64, to_z, of_z}
 use Rattle.std.proofs.lemmas.Int.{to_z-of_z}
-use Rattle.weighing.proofs.Holding.{within_fits64}
+use Rattle.weighmodel.proofs.Holding.{within_fits64}
 use Rattle.worth.specs.Worths.{better, joined}
 use Rattle.planning.proofs.Entries.{pick_more, pick_past}
 use Rattle.planning.proofs.planner.Planner.best.Goals as goal

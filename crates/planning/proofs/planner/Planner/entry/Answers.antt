@@ -1,8 +1,8 @@
 use Rattle.std.proofs.Common.{◌≡◌, ◌-◌, ◌/◌, ◌%◌, sym, ap, ◌∙◌, w64, to_z, of_z, arith}
 use Rattle.std.proofs.lemmas.Int.{to_z-of_z}
 use Rattle.weighing.specs.Discounts.{discount_of}
-use Rattle.weighing.proofs.Holding.{within_fits64}
-use Rattle.weighing.specs.Weighings.{held}
+use Rattle.weighmodel.proofs.Holding.{within_fits64}
+use Rattle.weighmodel.specs.Weighings.{held}
 use Rattle.worth.specs.Worths.{own_part, summed, action_of}
 use Rattle.planning.specs.Plans.{worth_at, choice_at}
 use Rattle.planning.proofs.Entries.{picked_within, picked_small, last_worth, first_row, entry_there}

@@ -2,7 +2,7 @@ use Rattle.std.proofs.Common.{◌≡◌, ℤ, pos, get_or, sym, ap, ◌∙◌, w
 use Rattle.std.proofs.lemmas.Int.{to_z-of_z}
 use Rattle.std.proofs.lemmas.List.Sums.{fold_more}
 use Rattle.model.specs.declared.Outcome.{Outcome}
-use Rattle.weighing.proofs.Holding.{within_fits64}
+use Rattle.weighmodel.proofs.Holding.{within_fits64}
 use Rattle.planning.proofs.planner.Planner.joined.Goals as goal
 
 pub loop-way-preserved : goal.loop-way-preserved

@@ -1,6 +1,6 @@
 -- The outcomes so far are joined.
 use Rattle.std.proofs.Common.{◌≡◌, take}
-use Rattle.weighing.specs.Weighings.{Within}
+use Rattle.weighmodel.specs.Weighings.{Within}
 use Rattle.worth.specs.Worths.{joined}
 use Rattle.planning.specs.Plans.{stored_worth}
 use Rattle.planning.proofs.planner.Planner.joined.Given as goal

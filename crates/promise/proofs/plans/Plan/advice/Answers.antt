@@ -1,5 +1,5 @@
 use Rattle.std.proofs.Common.{◌≡◌, ℕ, ◌-◌, cond, leb, List, length, Some, None, Option, sym, ap, ◌∙◌}
-use Rattle.pile.specs.Piles.{Piling, shown_on}
+use Rattle.pilemodel.specs.Piles.{Piling, shown_on}
 use Rattle.promise.specs.Corresponding.{book_model, place_in}
 use Rattle.promise.specs.WholePlan.{IsPlanOf, choice_for, policy_of}
 use Rattle.promise.specs.declared.plans.Plan.{Plan}
@@ -11,7 +11,7 @@ use Rattle.walk.specs.Reckoner.{Reckoner, StaysBeside, begins, reckoned_after}
 use Rattle.walk.specs.Views.{walk_of}
 use Rattle.walk.specs.Walker.{Walk, begun, chosen_in, reached, stands_at, walk_has}
 use Rattle.weighing.specs.Discounts.{discount_of}
-use Rattle.weighing.specs.Weighings.{Weigh}
+use Rattle.weighmodel.specs.Weighings.{Weigh}
 use Rattle.writeout.specs.Copies.{by_origin}
 use Rattle.promise.proofs.plans.Plan.advice.Goals as goal
 

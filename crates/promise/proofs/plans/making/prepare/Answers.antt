@@ -1,5 +1,6 @@
 use Rattle.std.proofs.Common.{◌≡◌, ◌*◌, ◌≤◌, length, take, Some, Ok, Err, sym, ap, ◌∙◌, subst, arith, mul-le-mul}
-use Rattle.planning.proofs.Accepting.{accepted_short, refused_by, unrefused}
+use Rattle.planning.proofs.Accepting.{accepted_short}
+use Rattle.refusal.proofs.Rows.{refused_by, unrefused}
 use Rattle.planning.specs.Plans.{sizes_refusal}
 use Rattle.sitebook.specs.Contents.{contents}
 use Rattle.sitelayout.specs.Layout.{site_format}

@@ -1,6 +1,6 @@
 use Rattle.std.proofs.Common.{◌≡◌, ◌^◌, ◌<◌, [], ◌∷◌, ◌++◌, length, refl, sym, ap, ◌∙◌, subst, arith, rules}
 use Rattle.register.specs.Register.{keys_of}
-use Rattle.pen.specs.Laid.{Laid}
+use Rattle.pen.specs.Pens.{HasWritten}
 use Rattle.sitelayout.specs.Layout.{site_words}
 use Rattle.words.specs.Words.{end_word}
 use Rattle.writeout.specs.Book.{book_of}
@@ -30,8 +30,8 @@ returns-clause-bytes g c =
     let small = book_small m law codes c.args.self.now.few in
     let last : c.end_word.result ≡ end_word c.in_ok-before.before = omega (arith, c.end_word.ensures, some.0, small) in
     let room = c.put.ensures.room ∙ c.write_cells.ensures.room ∙ c.write_marks.ensures.room ∙ c.write_head.ensures.room ∙ c.new-pen.ensures.room in
-    let all : Laid (site_words (book_of m codes) ++ (end_word (length (site_words (book_of m codes))) ∷ [])) c.put.new.self =
-    subst (λ n. Laid (site_words (book_of m codes) ++ (end_word n ∷ [])) c.put.new.self) some.0
-    (subst (λ w. Laid (site_words (book_of m codes) ++ (w ∷ [])) c.put.new.self) last (c.put.ensures.laid (site_words (book_of m codes)) laid)) in
+    let all : HasWritten (site_words (book_of m codes) ++ (end_word (length (site_words (book_of m codes))) ∷ [])) c.put.new.self =
+    subst (λ n. HasWritten (site_words (book_of m codes) ++ (end_word n ∷ [])) c.put.new.self) some.0
+    (subst (λ w. HasWritten (site_words (book_of m codes) ++ (w ∷ [])) c.put.new.self) last (c.put.ensures.laid (site_words (book_of m codes)) laid)) in
     let count : c.written-2.result ≡ words_in (length c.args.bytes.now) (book_of m codes) = c.written-2.ensures (site_words (book_of m codes) ++ (end_word (length (site_words (book_of m codes))) ∷ [])) all ∙ ap (λ n. words_in n (book_of m codes)) room in
     written_book (book_of m codes) c.put.new.self (length c.args.bytes.now) all room c.written-2.result count _ (search rules)

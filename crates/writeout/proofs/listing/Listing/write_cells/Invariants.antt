@@ -1,7 +1,7 @@
 -- The words of the states so far are written.
 use Rattle.std.proofs.Common.{take}
 use Rattle.register.specs.Register.{keys_of}
-use Rattle.pen.specs.Laid.{Adds}
+use Rattle.pen.specs.Pens.{Adds}
 use Rattle.sitelayout.specs.Layout.{cell_words}
 use Rattle.writeout.specs.Book.{cells_of}
 use Rattle.writeout.proofs.listing.Listing.write_cells.Given as goal

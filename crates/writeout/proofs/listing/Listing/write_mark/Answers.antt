@@ -1,7 +1,7 @@
 use Rattle.std.proofs.Common.{◌≡◌, [], ◌∷◌, pos, ◌+ℤ◌, nat_abs, ap, ◌∙◌, subst, arith, w32, SFits}
 use Rattle.std.proofs.lemmas.Int.{to_z-of_z}
 use Rattle.model.proofs.Laws.{mask_below}
-use Rattle.pen.specs.Laid.{Adds}
+use Rattle.pen.specs.Pens.{Adds}
 use Rattle.pen.proofs.Laying.{adds_both}
 use Rattle.sitelayout.specs.OneWord.{word_of_mask, word_of_reward}
 use Rattle.writeout.proofs.listing.Listing.write_mark.Goals as goal

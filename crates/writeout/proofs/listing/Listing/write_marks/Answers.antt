@@ -1,6 +1,6 @@
 use Rattle.std.proofs.Common.{◌≡◌, ◌+◌, [], ◌∷◌, ◌++◌, map, get_or, take, sym, ap, ◌∙◌, subst}
 use Rattle.std.proofs.lemmas.List.{map_more}
-use Rattle.pen.specs.Laid.{Adds}
+use Rattle.pen.specs.Pens.{Adds}
 use Rattle.pen.proofs.Laying.{adds_both}
 use Rattle.sitelayout.proofs.Account.{marks-append}
 use Rattle.sitelayout.specs.Layout.{mark_words}

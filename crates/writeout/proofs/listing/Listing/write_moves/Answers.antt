@@ -2,7 +2,7 @@ use Rattle.std.proofs.Common.{◌≡◌, ◌+◌, [], ◌∷◌, ◌++◌, map, 
 use Rattle.std.proofs.lemmas.List.{map_more}
 use Rattle.register.specs.Register.{keys_of}
 use Rattle.model.specs.declared.Outcome.{Outcome}
-use Rattle.pen.specs.Laid.{Adds}
+use Rattle.pen.specs.Pens.{Adds}
 use Rattle.pen.proofs.Laying.{adds_both}
 use Rattle.sitelayout.proofs.Account.{moves-append}
 use Rattle.sitelayout.specs.Layout.{move_words}

@@ -1,7 +1,7 @@
 -- The words of the outcomes so far are written.
 use Rattle.std.proofs.Common.{map, take}
 use Rattle.register.specs.Register.{keys_of}
-use Rattle.pen.specs.Laid.{Adds}
+use Rattle.pen.specs.Pens.{Adds}
 use Rattle.sitelayout.specs.Layout.{move_words}
 use Rattle.writeout.specs.Book.{move_to}
 use Rattle.writeout.proofs.listing.Listing.write_moves.Given as goal

@@ -1,6 +1,6 @@
 use Rattle.std.proofs.Common.{◌+◌, ◌*◌, sym, subst}
 use Rattle.register.specs.Register.{keys_of}
-use Rattle.pen.specs.Laid.{Adds}
+use Rattle.pen.specs.Pens.{Adds}
 use Rattle.pen.proofs.Laying.{adds_both}
 use Rattle.sitelayout.specs.Layout.{cell_word, cell_words}
 use Rattle.writeout.specs.Book.{cell_of, cells_below}

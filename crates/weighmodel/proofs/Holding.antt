@@ -4,7 +4,7 @@ use Rattle.std.proofs.Common.{arith}
 use Rattle.std.specs.Int.{w64}
 use Rattle.std.proofs.lemmas.Nat.{mul-le}
 use Rattle.std.proofs.lemmas.Int.{ints}
-use Rattle.weighing.specs.Weighings.{Within}
+use Rattle.weighmodel.specs.Weighings.{Within}
 
 pub within_fits64 : (x : ℤ) → Within x → FitsSigned w64 x
 within_fits64 x w = omega (arith, ints)

@@ -4,12 +4,12 @@ use Rattle.pen.specs.declared.Pen.{Pen}
 use Rattle.pen.specs.Bytes.{LaidIn}
 
 -- it has written the words ws
-abbrev pub Laid : List ℕ → Pen → Type 0
-Laid ws p = LaidIn ws p.words p.bytes.now
+abbrev pub HasWritten : List ℕ → Pen → Type 0
+HasWritten ws p = LaidIn ws p.words p.bytes.now
 
 -- between two moments a pen writes the words ws, into the same table
 pub record Adds (ws : List ℕ) (before after : Pen) : Type 0 where
-  pub laid : (vs : List ℕ) → Laid vs before → Laid (vs ++ ws) after
+  pub laid : (vs : List ℕ) → HasWritten vs before → HasWritten (vs ++ ws) after
   pub room : length after.bytes.now ≡ length before.bytes.now
   pub lent : after.bytes.ghost_name ≡ before.bytes.ghost_name
 

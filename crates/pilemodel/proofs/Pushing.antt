@@ -1,4 +1,4 @@
--- One floor more on a pile.
+-- One floor more on a pile is again a pile.
 use Rattle.std.specs.Prelude.{◌≡◌, List, [], ◌∷◌, ◌++◌, Some, None, Option, refl}
 use Rattle.std.proofs.Common.{sym, ap, ◌∙◌}
 use Rattle.std.specs.Option.{option_map}
@@ -7,20 +7,8 @@ use Rattle.wishbook.specs.declared.book.WishBook.{WishBook}
 use Rattle.wishbook.specs.Contents.{contents}
 use Rattle.layermodel.proofs.Books.{kept}
 use Rattle.layermodel.specs.Layered.{over}
-use Rattle.pile.specs.Piles.{Floor, bare, wishes, floor_over, piled, Piling, SoundFloor, SoundFloors, Laid}
-
--- the floor of a layer: its book, if it has one
-abbrev pub floor_in : Option WishBook → Floor
-floor_in None = bare
-floor_in (Some w) = wishes (contents w)
-
--- a layer on a pile: one floor more
-abbrev pub raised : Piling → Model → Option WishBook → Piling
-raised p m o = record { base = p.base; floors = p.floors ++ (floor_in o ∷ []); model = over m (option_map contents o) }
-
--- a ground model alone
-abbrev pub grounding : Model → Piling
-grounding m = record { base = m; floors = []; model = m }
+use Rattle.pilemodel.specs.Piles.{Floor, floor_over, piled, Piling, SoundFloor, SoundFloors, Laid}
+use Rattle.pilemodel.specs.Raised.{floor_in, raised, grounding}
 
 pub piled_push : (m : Model) (fs : List Floor) (f : Floor) → piled m (fs ++ (f ∷ [])) ≡ floor_over (piled m fs) f
 piled_push m [] f = refl

@@ -1,11 +1,10 @@
--- Both weighings are lawful: what they join is held, and raising a value never lowers what is joined. The code of a weighing cites
--- its law, so the law stands here with the lemmas that it needs; what else is known of held values is in proofs/.
+-- Both weighings are lawful: what they join is held, and raising a value never lowers what is joined.
 use Rattle.std.specs.Prelude.{◌≡◌, ℕ, ◌+◌, ◌*◌, ◌≤◌, min, ℤ, pos, ◌+ℤ◌, ◌*ℤ◌, ◌≤ℤ◌}
 use Rattle.std.proofs.Common.{mul-le-mul_left, mul-add, arith}
 use borrow.Author.Differences.{up, down}
 use Rattle.std.specs.Int.{int_min}
 use Rattle.std.proofs.lemmas.Int.{ints, clamps}
-use Rattle.weighing.specs.Weighings.{held, Within, LawfulWeigh, mean, worst}
+use Rattle.weighmodel.specs.Weighings.{held, Within, LawfulWeigh, mean, worst}
 
 -- ---- holding keeps an order, and so do sums, products and the lesser of two
 

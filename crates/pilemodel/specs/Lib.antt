@@ -1,0 +1,3 @@
+pub mod Piles
+pub mod Raised
+pub mod Telling
