@@ -25,7 +25,8 @@ weighing_word Worst = codes "worst"
 
 -- what comes after an option, each time that it is given, in order
 abbrev pub values_of : Name → List (List ℕ) → List (List ℕ)
-values_of name (word ∷ (value ∷ words)) = if bytes_eq word (option_word name) then value ∷ values_of name words else values_of name words
+values_of name (word ∷ (value ∷ words)) =
+    if bytes_eq word (option_word name) then value ∷ values_of name words else values_of name words
 values_of name _ = []
 
 -- the number that a text of digits writes
@@ -56,8 +57,11 @@ pub record Holds (given : Name → List (List ℕ)) (o : Options) : Type 0 where
 
 -- what is given, and one value more
 abbrev pub one_more : Name → List ℕ → (Name → List (List ℕ)) → Name → List (List ℕ)
-one_more name value given other = if bytes_eq (option_word name) (option_word other) then given other ++ value ∷ [] else given other
+one_more name value given other =
+    if bytes_eq (option_word name) (option_word other) then given other
+    ++ value ∷ [] else given other
 
 -- whatever the options held, they hold the value too
 abbrev pub Takes : Name → List ℕ → Options → Options → Type 0
-Takes name value old new = (given : Name → List (List ℕ)) → Holds given old → Holds (one_more name value given) new
+Takes name value old new =
+    (given : Name → List (List ℕ)) → Holds given old → Holds (one_more name value given) new

@@ -18,7 +18,6 @@ pub use resting::{mark, mark_resting};
 pub use table::at;
 
 /// How many nodes are numbered at most.
-// A slice of any length is answered, a longer one by `None`: a bounded list in its place would ask more of callers.
 pub const NODES: usize = 128;
 
 /// One node of a formula; a label goes by its number, and an operand by that of an earlier node, both counted from 0. `Since(a, b)` is

@@ -55,8 +55,7 @@ impl<'a> BookAt<'a> {
         wish_bits(self.book, self.known())
     }
 
-    // A sum, and the amounts of the wishes that hold. A `for` over the book's wishes: this form is fixed, see
-    // docs/DECISIONS.md.
+    // A sum, and the amounts of the wishes that hold.
     pub(crate) fn earned(&self, sum: i32) -> i32
         requires { unsigned_abs sum ≤ 2000 }
         ensures { result ≡ earned sum (contents self.now.book.now).wishes (known self.now) }

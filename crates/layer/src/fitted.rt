@@ -41,8 +41,7 @@ impl<'a, M: SiteModel> Fitted<'a, M> {
         Ok(Fitted { below, book, sizes })
     }
 
-    // The state below and the memory, where `s` is a state of the layer. A pair, which each caller takes
-    // apart at once.
+    // The state below and the memory, where `s` is a state of the layer.
     fn apart(&self, s: u64) -> Option<(u64, u64)>
         ensures { IsApart (M.SiteModel.meaning self.now.below.now)
             (contents self.now.book.now) s result }
@@ -74,8 +73,7 @@ fn join(mask: u32, labels: u32, bits: u32) -> u32
     mask + (bits << labels)
 }
 
-// The outcomes with a memory beside each target. Nothing collects into a bounded list, and a public map over
-// a closure would ask that the closure may be called.
+// The outcomes with a memory beside each target.
 fn lift(ways: Outcomes, memory: u64) -> Outcomes
     requires low { All (λ o. o.target < 2 ^ 44) (listed ways) }
     requires small { memory < 65536 }

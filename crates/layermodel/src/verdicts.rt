@@ -38,8 +38,7 @@ fn verdict(node: Node, mask: u32, recalled: &Recalled<'_>, before: &[bool]) -> b
     }
 }
 
-// The truth of each of at most 128 nodes. That it is a table filled in rising order is fixed
-// (docs/DECISIONS.md).
+// The truth of each of at most 128 nodes, in rising order.
 fn truths(nodes: &[Node], mask: u32, recalled: &Recalled<'_>) -> [bool; 128]
     requires { length nodes.now ≤ 128 }
     ensures { take (length nodes.now) result ≡ verdicts mask (recalled_by recalled.now) nodes.now }

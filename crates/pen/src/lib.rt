@@ -32,8 +32,6 @@ impl<'a> Pen<'a> {
     }
 
     /// One word more. Where there is no room for it, nothing more is written, and the words are no longer counted.
-    // The room is asked by hand: tried with `first_chunk_mut` of the table's rest, after which the check knew no more of the table
-    // than its length.
     pub fn put(&mut self, word: u32)
         ensures { Adds (word ∷ []) self.old self.new }
     {

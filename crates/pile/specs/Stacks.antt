@@ -64,4 +64,6 @@ pub record HasFloors {G : Type 0} (p : Stack G) (ws : List WishBook) : Type 0 wh
 
 -- the pile means all the books on the ground model
 abbrev pub IsPileOf : {G : Type 0} → (G → Model) → G → List WishBook → Stack G → Type 0
-IsPileOf mean bottom ws p = meaning_of (meaning_of (meaning_of (λ f. mean f.bottom))) p ≡ piled (mean bottom) (books_as_floors ws)
+IsPileOf mean bottom ws p =
+    meaning_of (meaning_of (meaning_of (λ f. mean f.bottom))) p
+    ≡ piled (mean bottom) (books_as_floors ws)

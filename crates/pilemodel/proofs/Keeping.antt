@@ -40,11 +40,25 @@ floors_unfold : (g m : Model) (at : Place) (fs : List Floor) → SoundFloors fs 
 floors_unfold g m at [] ok u = u
 floors_unfold g m at (f ∷ fs) ok u = floors_unfold g (floor_over m f) (with_floor m at f) fs ok.1 (floor_unfolds g m at f ok.0 u)
 
+-- no floor bars anything
+floor_offers : (m : Model) (at : Place) (f : Floor) (h : List ℕ) (a : ℕ) → (with_floor m at f).shown.offered h a ≡ at.shown.offered h a
+floor_offers m at bare h a = refl
+floor_offers m at (wishes b) h a = by_fit (fits m b)
+  where
+    by_fit : (t : Bool) → (cond t (record { code = code_over at.code at.shown.mask b; shown = shown_over m.labels b at.shown }) at).shown.offered h a ≡ at.shown.offered h a
+    by_fit true = refl
+    by_fit false = refl
+
+floors_offer : (m : Model) (at : Place) (fs : List Floor) (h : List ℕ) (a : ℕ) → (with_floors m at fs).shown.offered h a ≡ at.shown.offered h a
+floors_offer m at [] h a = refl
+floors_offer m at (f ∷ fs) h a = floors_offer (floor_over m f) (with_floor m at f) fs h a ∙ floor_offers m at f h a
+
 -- the promise
 pub pile_keeps : (g : Model) → Lawful g → Ground g → (fs : List Floor) → SoundFloors fs → Keeps (piling g fs)
 pile_keeps g law ground fs ok =
     let u = floors_unfold g g (on_ground g) fs ok (ground_unfolds g law ground) in
     record {
+      offers = floors_offer g (on_ground g) fs;
       unfolds = u;
       one_path = one_path_above g (shown_on (piling g fs)) (piled g fs) (place_on (piling g fs)).code u;
     }

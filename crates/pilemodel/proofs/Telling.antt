@@ -60,7 +60,7 @@ memory_small : (b : Book) → SoundBook b → (τ : Trace) (n : ℕ) → memory_
 memory_small b ok τ zero = omega arith
 memory_small b ok τ (suc n) = bits_small (item_held (truths b.nodes τ n)) b.items ok.few
 
--- what a book that is laid makes of what is shown
+-- what a book that is laid makes of what is shown_below
 abbrev with_book : Model → Place → Book → Place
 with_book m sh b = record { code = code_over sh.code sh.shown.mask b; shown = shown_over m.labels b sh.shown }
 
@@ -229,11 +229,11 @@ module _ (g : Model) (law : Lawful g) (own : Ground g) where
       same_end : end_of h ≡ end_of p
       same_end = ap (λ k. k - 1) (length-map p pile.site)
 
-      abbrev shown : Trace
-      shown = masks_below m (wishes b ∷ upper) p
+      abbrev shown_below : Trace
+      shown_below = masks_below m (wishes b ∷ upper) p
 
       -- the record that the floors below show is that of the history
-      shown_is : (i : ℕ) → i < length p → shown i ≡ trace_of sh.shown.mask h i
+      shown_is : (i : ℕ) → i < length p → shown_below i ≡ trace_of sh.shown.mask h i
       shown_is i l =
           let down = path_below all_floors ok (take (i + 1) p) (history_take pile (by_itself pile).offered p path i l) in
           let last : final (take (i + 1) p) ≡ get_or p i 0 =
@@ -248,10 +248,10 @@ module _ (g : Model) (law : Lawful g) (own : Ground g) where
       some : 1 ≤ length p
       some = some_history pile (by_itself pile).offered p path
 
-      truth_is : (f : Formula) (j : ℕ) → j < length p → holds f (trace_of sh.shown.mask h) j ≡ holds f shown j
-      truth_is f j l = holds_local f (trace_of sh.shown.mask h) shown j (λ i le. sym (shown_is i (omega arith)))
+      truth_is : (f : Formula) (j : ℕ) → j < length p → holds f (trace_of sh.shown.mask h) j ≡ holds f shown_below j
+      truth_is f j l = holds_local f (trace_of sh.shown.mask h) shown_below j (λ i le. sym (shown_is i (omega arith)))
 
-      tells_is : (x : Item) (j : ℕ) → j < length p → tells b.nodes (trace_of sh.shown.mask h) x j ≡ tells b.nodes shown x j
+      tells_is : (x : Item) (j : ℕ) → j < length p → tells b.nodes (trace_of sh.shown.mask h) x j ≡ tells b.nodes shown_below x j
       tells_is (Held i) j l = truth_is (formula_at b i) j l
       tells_is (Failed i) j l = ap not (truth_is (formula_at b i) j l)
 
@@ -262,15 +262,15 @@ module _ (g : Model) (law : Lawful g) (own : Ground g) where
           ∙ memory_packed (sh.code h) (memory_at b (trace_of sh.shown.mask h) (end_of h)) (memory_small b ok_upper.0 (trace_of sh.shown.mask h) (end_of h))
           ∙ ap (memory_at b (trace_of sh.shown.mask h)) same_end
 
-      memory_bit : (k : ℕ) (x : Item) → slice_get b.items k ≡ Some x → IsTrue (labelled (memory_of_floor m b upper (final p)) k) ↔ OneEarlier (end_of p) (Told b shown x)
+      memory_bit : (k : ℕ) (x : Item) → slice_get b.items k ≡ Some x → IsTrue (labelled (memory_of_floor m b upper (final p)) k) ↔ OneEarlier (end_of p) (Told b shown_below x)
       memory_bit k x here =
           let n = end_of p in
           let is : labelled (memory_of_floor m b upper (final p)) k ≡ before n (tells b.nodes (trace_of sh.shown.mask h) x) =
           ap (λ s. labelled s k) memory_is
           ∙ memory_tells b ok_upper.0 (trace_of sh.shown.mask h) n k (slice_get_within b.items k x here)
           ∙ ap (λ y. before n (tells b.nodes (trace_of sh.shown.mask h) y)) (get_or_from_slice_get b.items k x (Held 0) here) in
-          subst (λ t. IsTrue t ↔ OneEarlier n (Told b shown x)) (sym is)
-          (before_plain n (tells b.nodes (trace_of sh.shown.mask h) x) (Told b shown x) (λ j l. subst (λ t. IsTrue t ↔ Told b shown x j) (sym (tells_is x j (omega (arith, some)))) (told_plain b shown x j)))
+          subst (λ t. IsTrue t ↔ OneEarlier n (Told b shown_below x)) (sym is)
+          (before_plain n (tells b.nodes (trace_of sh.shown.mask h) x) (Told b shown_below x) (λ j l. subst (λ t. IsTrue t ↔ Told b shown_below x j) (sym (tells_is x j (omega (arith, some)))) (told_plain b shown_below x j)))
 
       mask_is : pile.mask (final p) ≡ (with_floors m sh (wishes b ∷ upper)).shown.mask h
       mask_is = ap pile.mask stands ∙ above.masks h hist ∙ ap (λ (s : Place). s.shown.mask h) whole_is
@@ -278,11 +278,11 @@ module _ (g : Model) (law : Lawful g) (own : Ground g) where
       low : sh.shown.mask h < 2 ^ m.labels
       low = subst (λ k. k < 2 ^ m.labels) (mask_below h hist) ((piled_lawful g lower ok_lower law).shows.labelled (state_below m (wishes b ∷ upper) (whole.code h)))
 
-      wish_bit : (k : ℕ) (w : Wish) → slice_get b.wishes k ≡ Some w → IsTrue (labelled (pile.mask (final p)) (m.labels + k)) ↔ IsTrueAt (formula_at b w.node) shown (end_of p)
+      wish_bit : (k : ℕ) (w : Wish) → slice_get b.wishes k ≡ Some w → IsTrue (labelled (pile.mask (final p)) (m.labels + k)) ↔ IsTrueAt (formula_at b w.node) shown_below (end_of p)
       wish_bit k w here =
           let inside = slice_get_within b.wishes k w here in
           let room : (over m (Some b)).labels ≡ m.labels + length b.wishes = ap (λ (x : Model). x.labels) (cond-true (fits m b) (layered m b) m fit) in
-          let is : labelled (pile.mask (final p)) (m.labels + k) ≡ holds (formula_at b w.node) shown (end_of p) =
+          let is : labelled (pile.mask (final p)) (m.labels + k) ≡ holds (formula_at b w.node) shown_below (end_of p) =
           ap (λ x. labelled x (m.labels + k)) mask_is
           ∙ floors_mask (over m (Some b)) (with_floor m sh (wishes b)) upper h (m.labels + k) (omega (arith, room, inside))
           ∙ ap (λ (s : Place). labelled (s.shown.mask h) (m.labels + k)) book_laid
@@ -290,7 +290,7 @@ module _ (g : Model) (law : Lawful g) (own : Ground g) where
           ∙ ap (λ (y : Wish). holds (formula_at b y.node) (trace_of sh.shown.mask h) (end_of h)) (get_or_from_slice_get b.wishes k w w here)
           ∙ ap (holds (formula_at b w.node) (trace_of sh.shown.mask h)) same_end
           ∙ truth_is (formula_at b w.node) (end_of p) (omega (arith, some)) in
-          subst (λ t. IsTrue t ↔ IsTrueAt (formula_at b w.node) shown (end_of p)) (sym is) (plain_truth (formula_at b w.node) shown (end_of p))
+          subst (λ t. IsTrue t ↔ IsTrueAt (formula_at b w.node) shown_below (end_of p)) (sym is) (plain_truth (formula_at b w.node) shown_below (end_of p))
 
       label_bit : (q : ℕ) → q < m.labels → labelled (pile.mask (final p)) q ≡ labelled (m.mask (state_below m (wishes b ∷ upper) (final p))) q
       label_bit q l =
@@ -298,12 +298,12 @@ module _ (g : Model) (law : Lawful g) (own : Ground g) where
           ∙ floors_mask m sh (wishes b ∷ upper) h q l
           ∙ ap (λ x. labelled x q) (sym (ap (λ s. m.mask (state_below m (wishes b ∷ upper) s)) stands ∙ mask_below h hist))
 
-      reward_is : (over m (Some b)).reward (state_below (over m (Some b)) upper (final p)) ≡ fold ◌+ℤ◌ (m.reward (state_below m (wishes b ∷ upper) (final p))) (map amount (filter (wish_holds b shown (end_of p)) b.wishes))
+      reward_is : (over m (Some b)).reward (state_below (over m (Some b)) upper (final p)) ≡ fold ◌+ℤ◌ (m.reward (state_below m (wishes b ∷ upper) (final p))) (map amount (filter (wish_holds b shown_below (end_of p)) b.wishes))
       reward_is =
           let parts = and_parts (earlier b.nodes) (all (good_wish (length b.nodes)) b.wishes) ok_upper.0.names in
           let start : m.reward (state_below m (wishes b ∷ upper) (final p)) ≡ sh.shown.reward h =
           ap (λ s. m.reward (state_below m (wishes b ∷ upper) s)) stands ∙ ap m.reward (code_lower h) ∙ below.rewards h (lower_history h hist) in
-          let held = held_same b (trace_of sh.shown.mask h) (end_of h) (wish_holds b shown (end_of p))
+          let held = held_same b (trace_of sh.shown.mask h) (end_of h) (wish_holds b shown_below (end_of p))
           (λ w. ap (holds (formula_at b w.node) (trace_of sh.shown.mask h)) same_end ∙ truth_is (formula_at b w.node) (end_of p) (omega (arith, some))) b.wishes parts.1 in
           ap (λ s. (over m (Some b)).reward (state_below (over m (Some b)) upper s)) stands
           ∙ ap (over m (Some b)).reward (code_here h)

@@ -76,8 +76,13 @@ place_on p = with_floors p.base (on_ground p.base) p.floors
 abbrev pub shown_on : Piling → Shown
 shown_on p = (place_on p).shown
 
+-- wishes bar nothing: after every list of states a pile shows the offers of the ground model
+abbrev pub OffersAll : Piling → Type 0
+OffersAll p = (h : List ℕ) (a : ℕ) → (shown_on p).offered h a ≡ p.base.offered (final h) a
+
 -- the promise: after every history of the ground model the pile stands where the truth lines say, shows and earns what they say, and
 -- each history has just one path of the pile above it, with the ground's actions, outcome order and weights
 pub record Keeps (p : Piling) : Type 0 where
+  pub offers : OffersAll p
   pub unfolds : Unfolds p.base (shown_on p) p.model (place_on p).code
   pub one_path : OnePathAbove p.base (shown_on p) p.model

@@ -14,7 +14,8 @@ floor_in (Some w) = wishes (contents w)
 
 -- a layer on a pile: one floor more
 abbrev pub raised : Piling → Model → Option WishBook → Piling
-raised p m o = record { base = p.base; floors = p.floors ++ (floor_in o ∷ []); model = over m (option_map contents o) }
+raised p m o =
+    record { base = p.base; floors = p.floors ++ (floor_in o ∷ []); model = over m (option_map contents o) }
 
 -- a ground model alone
 abbrev pub grounding : Model → Piling

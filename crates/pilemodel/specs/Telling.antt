@@ -51,8 +51,8 @@ wish_holds b τ n w = holds (formula_at b w.node) τ n
 -- the book b lies on the model m with the floors `upper` above it, as a pile; p is a path of the pile
 module _ (m : Model) (b : Book) (upper : List Floor) (pile : Model) (p : List ℕ) where
   -- the record that the floors below show along the path
-  abbrev pub shown : Trace
-  shown = masks_below m (wishes b ∷ upper) p
+  abbrev pub shown_below : Trace
+  shown_below = masks_below m (wishes b ∷ upper) p
 
   -- at its end: the state of the book's layer, and the one below it
   abbrev pub state_here : ℕ
@@ -64,19 +64,21 @@ module _ (m : Model) (b : Book) (upper : List Floor) (pile : Model) (p : List �
   pub record FloorTells : Type 0 where
     -- bit k of the memory is set just where item k told the truth one position earlier
     pub memory : (k : ℕ) (x : Item) → slice_get b.items k ≡ Some x
-        → IsTrue (labelled (memory_of_floor m b upper (final p)) k) ↔ OneEarlier (end_of p) (Told b shown x)
+        → IsTrue (labelled (memory_of_floor m b upper (final p)) k) ↔ OneEarlier (end_of p) (Told b shown_below x)
     -- the bit of wish k, above the labels below, is set just where the wish holds at the end
     pub wishes : (k : ℕ) (w : Wish) → slice_get b.wishes k ≡ Some w
-        → IsTrue (labelled (pile.mask (final p)) (m.labels + k)) ↔ IsTrueAt (formula_at b w.node) shown (end_of p)
+        → IsTrue (labelled (pile.mask (final p)) (m.labels + k)) ↔ IsTrueAt (formula_at b w.node) shown_below (end_of p)
     -- the bits of the labels below are those that the floors below show
-    pub labels : (q : ℕ) → q < m.labels → labelled (pile.mask (final p)) q ≡ labelled (m.mask state_under) q
+    pub labels : (q : ℕ) → q < m.labels
+        → labelled (pile.mask (final p)) q ≡ labelled (m.mask state_under) q
     -- the reward is the one below, and the amounts of just the wishes that hold at the end
     pub reward : (over m (Some b)).reward state_here
-        ≡ fold ◌+ℤ◌ (m.reward state_under) (map amount (filter (wish_holds b shown (end_of p)) b.wishes))
+        ≡ fold ◌+ℤ◌ (m.reward state_under) (map amount (filter (wish_holds b shown_below (end_of p)) b.wishes))
 
 -- along every path of a pile, each floor that is laid tells the truth, and below all floors is the ground state
 pub record BitsTell (p : Piling) : Type 0 where
-  pub site : (q : List ℕ) → Path p.model q → state_below p.base p.floors (final q) ≡ p.model.site (final q)
+  pub site : (q : List ℕ) → Path p.model q
+      → state_below p.base p.floors (final q) ≡ p.model.site (final q)
   pub floors : (lower : List Floor) (b : Book) (upper : List Floor)
       → p.floors ≡ lower ++ (wishes b ∷ upper) → IsTrue (fits (piled p.base lower) b)
       → (q : List ℕ) → Path p.model q → FloorTells (piled p.base lower) b upper p.model q

@@ -8,6 +8,7 @@ use Rattle.promise.specs.Corresponding.{book_model, place_in, Corresponds}
 pub corresponds : (pile : Piling) → pile.model ≡ piled pile.base pile.floors → Keeps pile → Represents pile.model → Corresponds pile
 corresponds pile stands keeps book = record {
   stands = stands;
+  offers = keeps.offers;
   on_pile = keeps.unfolds;
   over_pile = keeps.one_path;
   in_book = λ few. book.carries few pile.base (shown_on pile) (place_on pile).code keeps.unfolds;

@@ -10,11 +10,12 @@ use Rattle.promise.proofs.Agreeing.{agree_on_pile, agree_in_book, stands_on_pile
 use Rattle.promise.proofs.Corresponding.{corresponds}
 use Rattle.promise.proofs.Earning.{best_in_book}
 
-pub promises : (m : Model) (pile : Piling) → Laid m pile → Represents m → Promises pile
+pub promises : (m : Model) (pile : Piling) → Laid m pile → Represents m → Promises m pile
 promises m pile laid book =
     let own : Represents pile.model = subst Represents laid.means book in
     let c = corresponds pile laid.stands (laid_keeps m pile laid) own in
     record {
+      means = laid.means;
       represents = own;
       corresponds = c;
       agrees_on_pile = agree_on_pile pile c;
@@ -31,5 +32,5 @@ pub meaning_is : (m : Model) (pile : Piling) → Laid m pile → with_meaning m 
 meaning_is m pile laid = λ i. record { base = pile.base; floors = pile.floors; model = laid.means i }
 
 -- what is promised of the pile, of what its type means
-pub on_meaning : (m : Model) (pile : Piling) → Laid m pile → Promises pile → Promises (with_meaning m pile)
-on_meaning m pile laid p = subst Promises (sym (meaning_is m pile laid)) p
+pub on_meaning : (m : Model) (pile : Piling) → Laid m pile → Promises m pile → Promises m (with_meaning m pile)
+on_meaning m pile laid p = subst (Promises m) (sym (meaning_is m pile laid)) p

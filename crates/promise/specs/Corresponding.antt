@@ -3,7 +3,7 @@
 use Rattle.std.specs.Prelude.{List, ◌≡◌, ℕ}
 use Rattle.model.specs.Histories.{Unfolds, OnePathAbove}
 use Rattle.model.specs.Models.{Model}
-use Rattle.pilemodel.specs.Piles.{piled, Piling, place_on, shown_on}
+use Rattle.pilemodel.specs.Piles.{piled, OffersAll, Piling, place_on, shown_on}
 use Rattle.reach.specs.Search.{codes_of}
 use Rattle.writeout.specs.Copies.{by_origin, place_in_book}
 use Rattle.writeout.specs.Tables.{Writable, out_book}
@@ -18,6 +18,7 @@ place_in pile = place_in_book (codes_of pile.model) (place_on pile).code
 
 pub record Corresponds (pile : Piling) : Type 0 where
   pub stands : pile.model ≡ piled pile.base pile.floors
+  pub offers : OffersAll pile
   pub on_pile : Unfolds pile.base (shown_on pile) pile.model (place_on pile).code
   pub over_pile : OnePathAbove pile.base (shown_on pile) pile.model
   pub in_book : Writable pile.model

@@ -80,7 +80,7 @@ pub fn plan_and_walk<P: Pile, W: Weighing>(
         result.plan }
     ensures nobody { NobodyEarnsMore (W.meaning weighing.now) (P.Pile.piling pile.now) horizon
         result.plan }
-    ensures pile { Promises (P.Pile.piling pile.now) }
+    ensures pile { Promises (P.SiteModel.meaning pile.now) (P.Pile.piling pile.now) }
 {
     let on_pile = replay(pile, numbers, &mut *walks.on_pile);
     let plan = plan_pile(heap, pile, weighing, horizon, tables);

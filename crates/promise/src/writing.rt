@@ -23,7 +23,7 @@ pub fn write_pile<P: Pile>(
         (codes_of (P.SiteModel.meaning pile.now)) }
     ensures bytes { bytes.new ≡ table_after result (length bytes.old)
         (file (site_words (out_book (P.SiteModel.meaning pile.now)))) }
-    ensures pile { Promises (P.Pile.piling pile.now) }
+    ensures pile { Promises (P.SiteModel.meaning pile.now) (P.Pile.piling pile.now) }
 {
     write_out(pile, codes, bytes)
 }

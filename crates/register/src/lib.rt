@@ -116,7 +116,6 @@ impl<'a, K: Key> Register<'a, K> {
     }
 
     /// Where the key stands, counted from 0, if one that is equal to it was entered.
-    // Tried with `or_else`: the check then knows nothing of what its closure answers.
     pub fn place(&self, key: &K) -> Option<usize>
         ensures { Placed K.PartialEq.eq key.now (keys_of self.now) result }
     {

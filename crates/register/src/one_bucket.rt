@@ -3,7 +3,6 @@ ghost use Rattle.std.specs.Prelude.{refl};
 use super::Key;
 
 /// Any value with a lawful `==` as a key, with no number told: all are in one bucket, and a search looks at each.
-// A body of `bucket` in `Key` itself could not do it: its contract would have to hold whatever number an `impl` means.
 #[derive(Clone, Copy, PartialEq, Eq)]
 pub struct OneBucket<K>(pub K);
 

@@ -10,7 +10,6 @@ use model::{GroundModel, Numbered, Outcomes, SiteModel, Sizes};
 use rulemodel::{needs_met, outcomes_of};
 
 /// A valid rule book: one to ten switches, and one to eight actions of one to eight outcomes. A mask has bit k for switch k.
-// What it says is one value, `contents`, of which the laws speak; an `impl Model` would name that a second time.
 #[derive(Clone, Copy)]
 pub struct RuleBook {
     pub(crate) switches: u8,

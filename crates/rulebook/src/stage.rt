@@ -1,7 +1,7 @@
 // What has been read of a rule book, and what comes of one action or outcome more.
 ghost use Rattle.std.specs.Prelude.{◌≡◌, ◌<◌, [], ◌∷◌, ◌++◌, length};
 ghost use Rattle.bounded.specs.Listed.{listed};
-ghost use Rattle.rulelayout.specs.Layout.{listed as acts_read, filled};
+ghost use Rattle.rulelayout.specs.Layout.{after_acts as acts_read, filled};
 ghost use Rattle.rulebook.specs.Acts.{act_from};
 ghost use Rattle.rulebook.specs.Drafts.{list_from, draft_from, step_from};
 

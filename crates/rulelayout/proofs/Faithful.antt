@@ -16,7 +16,7 @@ use Rattle.rulelayout.specs.declared.Effect.{Effect}
 use Rattle.rulelayout.specs.declared.RuleHead.{RuleHead}
 use Rattle.rulelayout.specs.declared.Masks.{Masks}
 use Rattle.rulelayout.specs.Rule.{Act, Rule, total, fits, good_effect, good_act, good_head, waits, valid}
-use Rattle.rulelayout.specs.Layout.{word_of_head, action_word, effect_word, effect_words, words_of_act, act_words, rule_words, head_of, masks_of, Draft, blank, listing, inside, whole, listed, act_of, effect_of, filled, read_word, rule_of, whole_rule, rule_format, written, Begun, Good}
+use Rattle.rulelayout.specs.Layout.{word_of_head, action_word, effect_word, effect_words, words_of_act, act_words, rule_words, head_of, masks_of, Draft, blank, listing, inside, whole, after_acts, act_of, effect_of, filled, read_word, rule_of, whole_rule, rule_format, written, Begun, Good}
 use Rattle.rulelayout.proofs.OneWord.{head_only, head_parts, head_low, head_back, masks_only, masks_low, masks_back, count_parts}
 
 -- one word on: the draft is good, and the word is added to those read
@@ -49,7 +49,7 @@ module _ (h : RuleHead) (acts : List Act) (m : Masks) (es : List Effect) (w : �
       ap (λ l. first_words ++ (action_word m.first m.second m.count ∷ l)) effects_then
       ∙ sym (append_assoc first_words (action_word m.first m.second m.count ∷ effect_words es) (w ∷ []))
 
-  last_effect : (t : Draft) → length es' ≡ m.count → total es' ≡ 8 → t ≡ listed h (acts ++ (act_of m es' ∷ [])) → Steps (inside h acts m es) w t
+  last_effect : (t : Draft) → length es' ≡ m.count → total es' ≡ 8 → t ≡ after_acts h (acts ++ (act_of m es' ∷ [])) → Steps (inside h acts m es) w t
   last_effect t full eight at =
       let acts' = acts ++ (act_of m es' ∷ []) in
       let one : good_act h.switches (act_of m es') ≡ true =
@@ -73,7 +73,7 @@ module _ (h : RuleHead) (acts : List Act) (m : Masks) (es : List Effect) (w : �
             carry (inside h acts m es) w (inside h acts m es') t (sym (cond-true (ltb (length es') m.count) _ _ b) ∙ e')
             ((good.0, good.1, good.2, all_good, ltb-true (length es') m.count b), written_then)
         | inr b ↦
-            let passed = check_more (eqb (total es') 8) WrongTotal (more (listed h (acts ++ (act_of m es' ∷ [])))) t (sym (cond-false (ltb (length es') m.count) (more (inside h acts m es')) _ b) ∙ e') in
+            let passed = check_more (eqb (total es') 8) WrongTotal (more (after_acts h (acts ++ (act_of m es' ∷ [])))) t (sym (cond-false (ltb (length es') m.count) (more (inside h acts m es')) _ b) ∙ e') in
             let full : length es' ≡ m.count = omega (arith, ltb-false (length es') m.count b, length_push es (effect_of e), good.4) in
             last_effect t full (eqb-true (total es') 8 passed.0) (cc passed.1)
       ]
@@ -112,7 +112,7 @@ ends_well (inside h acts m es) w good e =
     let es' = es ++ (effect_of x ∷ []) in
     elim (cases_Bool (ltb (length es') m.count)) [
       | inl b ↦ absurd (cc (sym (cond-true (ltb (length es') m.count) (more (inside h acts m es')) _ b) ∙ at))
-      | inr b ↦ absurd (cc (check_ends (eqb (total es') 8) WrongTotal (more (listed h (acts ++ (act_of m es' ∷ [])))) (sym (cond-false (ltb (length es') m.count) (more (inside h acts m es')) _ b) ∙ at)).1)
+      | inr b ↦ absurd (cc (check_ends (eqb (total es') 8) WrongTotal (more (after_acts h (acts ++ (act_of m es' ∷ [])))) (sym (cond-false (ltb (length es') m.count) (more (inside h acts m es')) _ b) ∙ at)).1)
     ]
 ends_well (whole h acts) w good e = eqb-true (kind w) 15 (check_ends (eqb (kind w) 15) WrongKind ends e).0
 
@@ -152,15 +152,15 @@ module _ (h : RuleHead) (few : h.switches ≤ 10) where
     unfolding read_word
     effect_read done e good = ap (λ x. onto x (λ e. filled h acts m (done ++ (effect_of e ∷ [])))) (masks_back 8 h.switches e.set e.clear e.weight (lit< tt) few good)
 
-    pub effects_pass : (done : List Effect) (e : Effect) (rest : List Effect) → all (good_effect h.switches) (e ∷ rest) ≡ true → length (done ++ (e ∷ rest)) ≡ m.count → total (done ++ (e ∷ rest)) ≡ 8 → Passes rule_format (inside h acts m done) (effect_words (e ∷ rest)) (listed h (acts ++ (act_of m (done ++ (e ∷ rest)) ∷ [])))
+    pub effects_pass : (done : List Effect) (e : Effect) (rest : List Effect) → all (good_effect h.switches) (e ∷ rest) ≡ true → length (done ++ (e ∷ rest)) ≡ m.count → total (done ++ (e ∷ rest)) ≡ 8 → Passes rule_format (inside h acts m done) (effect_words (e ∷ rest)) (after_acts h (acts ++ (act_of m (done ++ (e ∷ rest)) ∷ [])))
     effects_pass done e [] good full eight =
         let es' = done ++ (e ∷ []) in
         let one = and_parts (good_effect h.switches e) true good in (
-          listed h (acts ++ (act_of m es' ∷ [])),
+          after_acts h (acts ++ (act_of m es' ∷ [])),
           (
             effect_read done e one.0
                 ∙ cond-false (ltb (length es') m.count) (more (inside h acts m es')) _ (le-ltb (length es') m.count (omega (arith, full)))
-                ∙ check_passed (eqb (total es') 8) WrongTotal (more (listed h (acts ++ (act_of m es' ∷ [])))) (eq-eqb (total es') 8 eight),
+                ∙ check_passed (eqb (total es') 8) WrongTotal (more (after_acts h (acts ++ (act_of m es' ∷ [])))) (eq-eqb (total es') 8 eight),
             (masks_low 8 h.switches e.set e.clear e.weight (lit< tt) few one.0, refl),
           ),
         )
@@ -175,7 +175,7 @@ module _ (h : RuleHead) (few : h.switches ≤ 10) where
             effect_read done e one.0 ∙ cond-true (ltb (length es') m.count) (more (inside h acts m es')) _ (lt-ltb (length es') m.count less),
             (
               masks_low 8 h.switches e.set e.clear e.weight (lit< tt) few one.0,
-              subst (λ (l : List Effect). Passes rule_format (inside h acts m es') (effect_words (f ∷ rest)) (listed h (acts ++ (act_of m l ∷ [])))) same later,
+              subst (λ (l : List Effect). Passes rule_format (inside h acts m es') (effect_words (f ∷ rest)) (after_acts h (acts ++ (act_of m l ∷ [])))) same later,
             ),
           ),
         )
@@ -208,38 +208,38 @@ module _ (h : RuleHead) (few : h.switches ≤ 10) where
   abbrev headed : Act → Masks
   headed a = record { first = a.on; second = a.off; count = length a.effects }
 
-  pub all_effects_pass : (acts : List Act) (on off : ℕ) (es : List Effect) → good_act h.switches (record { on = on; off = off; effects = es }) ≡ true → Passes rule_format (inside h acts (record { first = on; second = off; count = length es }) []) (effect_words es) (listed h (acts ++ (record { on = on; off = off; effects = es } ∷ [])))
+  pub all_effects_pass : (acts : List Act) (on off : ℕ) (es : List Effect) → good_act h.switches (record { on = on; off = off; effects = es }) ≡ true → Passes rule_format (inside h acts (record { first = on; second = off; count = length es }) []) (effect_words es) (after_acts h (acts ++ (record { on = on; off = off; effects = es } ∷ [])))
   all_effects_pass acts on off [] good = let parts = act_parts h.switches (record { on = on; off = off; effects = [] }) good in absurd (omega (arith, parts.2))
   all_effects_pass acts on off (e ∷ es) good =
       let parts = act_parts h.switches (record { on = on; off = off; effects = e ∷ es }) good in
       effects_pass acts (record { first = on; second = off; count = length (e ∷ es) }) [] e es parts.1 refl parts.2
 
-  act_passes : (acts : List Act) (a : Act) → good_act h.switches a ≡ true → Passes rule_format (listing h acts) (words_of_act a) (listed h (acts ++ (a ∷ [])))
+  act_passes : (acts : List Act) (a : Act) → good_act h.switches a ≡ true → Passes rule_format (listing h acts) (words_of_act a) (after_acts h (acts ++ (a ∷ [])))
   act_passes acts a good =
       let parts = act_parts h.switches a good in
       let opens = action_step acts (headed a) parts.0 in
       (inside h acts (headed a) [], (opens.0, (opens.1, all_effects_pass acts a.on a.off a.effects good)))
 
-  pub listed_more : (acts : List Act) → length acts < h.actions → listed h acts ≡ listing h acts
+  pub listed_more : (acts : List Act) → length acts < h.actions → after_acts h acts ≡ listing h acts
   listed_more acts less = cond-true (ltb (length acts) h.actions) _ _ (lt-ltb (length acts) h.actions less)
 
-  pub listed_all : (acts : List Act) → length acts ≡ h.actions → listed h acts ≡ whole h acts
+  pub listed_all : (acts : List Act) → length acts ≡ h.actions → after_acts h acts ≡ whole h acts
   listed_all acts full = cond-false (ltb (length acts) h.actions) _ _ (le-ltb (length acts) h.actions (omega (arith, full)))
 
   -- some actions lead to what is due after more
-  pub acts_pass : (done rest : List Act) → all (good_act h.switches) rest ≡ true → length done + length rest ≤ h.actions → Passes rule_format (listed h done) (act_words rest) (listed h (done ++ rest))
-  acts_pass done [] good few = ap (listed h) (sym (append-nil done))
+  pub acts_pass : (done rest : List Act) → all (good_act h.switches) rest ≡ true → length done + length rest ≤ h.actions → Passes rule_format (after_acts h done) (act_words rest) (after_acts h (done ++ rest))
+  acts_pass done [] good few = ap (after_acts h) (sym (append-nil done))
   acts_pass done (a ∷ rest) good few =
       let one = and_parts (good_act h.switches a) (all (good_act h.switches) rest) good in
       let same : (done ++ (a ∷ [])) ++ rest ≡ done ++ (a ∷ rest) = append_assoc done (a ∷ []) rest in
-      passes_append rule_format (words_of_act a) (act_words rest) (listed h done) (listed h (done ++ (a ∷ []))) (listed h (done ++ (a ∷ rest)))
-      (subst (λ (x : Draft). Passes rule_format x (words_of_act a) (listed h (done ++ (a ∷ [])))) (sym (listed_more done (omega arith))) (act_passes done a one.0))
-      (subst (λ (l : List Act). Passes rule_format (listed h (done ++ (a ∷ []))) (act_words rest) (listed h l)) same (acts_pass (done ++ (a ∷ [])) rest one.1 (omega (arith, length_push done a))))
+      passes_append rule_format (words_of_act a) (act_words rest) (after_acts h done) (after_acts h (done ++ (a ∷ []))) (after_acts h (done ++ (a ∷ rest)))
+      (subst (λ (x : Draft). Passes rule_format x (words_of_act a) (after_acts h (done ++ (a ∷ [])))) (sym (listed_more done (omega arith))) (act_passes done a one.0))
+      (subst (λ (l : List Act). Passes rule_format (after_acts h (done ++ (a ∷ []))) (act_words rest) (after_acts h l)) same (acts_pass (done ++ (a ∷ [])) rest one.1 (omega (arith, length_push done a))))
 
   all_acts_pass : (acts : List Act) → 1 ≤ h.actions → all (good_act h.switches) acts ≡ true → length acts ≡ h.actions → Passes rule_format (listing h []) (act_words acts) (whole h acts)
   all_acts_pass acts some good full =
       subst (λ (x : Draft). Passes rule_format x (act_words acts) (whole h acts)) (listed_more [] some)
-      (subst (λ (x : Draft). Passes rule_format (listed h []) (act_words acts) x) (listed_all acts full) (acts_pass [] acts good (omega (arith, full))))
+      (subst (λ (x : Draft). Passes rule_format (after_acts h []) (act_words acts) x) (listed_all acts full) (acts_pass [] acts good (omega (arith, full))))
 
 act_words_length : (switches : ℕ) (acts : List Act) → all (good_act switches) acts ≡ true → length (act_words acts) ≤ 9 * length acts
 act_words_length switches [] good = omega arith

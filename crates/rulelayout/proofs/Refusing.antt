@@ -8,7 +8,7 @@ use Rattle.words.proofs.Encoding.{Passes, passes_append}
 use Rattle.words.proofs.Refusing.{refused, why_not, refuses_rightly}
 use Rattle.rulelayout.specs.declared.RuleHead.{RuleHead}
 use Rattle.rulelayout.specs.Rule.{Act}
-use Rattle.rulelayout.specs.Layout.{word_of_head, action_word, effect_words, act_words, Draft, blank, listing, inside, whole, listed, read_word, whole_rule, rule_format, written, Begun, Good}
+use Rattle.rulelayout.specs.Layout.{word_of_head, action_word, effect_words, act_words, Draft, blank, listing, inside, whole, after_acts, read_word, whole_rule, rule_format, written, Begun, Good}
 use Rattle.rulelayout.specs.WordTests.{may_end, passes, closes}
 use Rattle.rulelayout.proofs.Faithful.{steps, effects_lead, action_step, listed_more, listed_all, acts_pass, head_step}
 use Rattle.rulelayout.proofs.OneWord.{head_parts}
@@ -44,11 +44,11 @@ judged (whole h acts) g e = search rules
 -- the words of a draft lead to it
 
 module _ (h : RuleHead) (acts : List Act) (begun : Begun h acts) where
-  acts_lead : length acts ≤ h.actions → Passes rule_format blank (word_of_head h.switches h.actions h.start ∷ act_words acts) (listed h acts)
+  acts_lead : length acts ≤ h.actions → Passes rule_format blank (word_of_head h.switches h.actions h.start ∷ act_words acts) (after_acts h acts)
   acts_lead few =
       let parts = head_parts h.switches h.actions h.start begun.0 in
       let opens = head_step h begun.0 in
-      (listing h [], (opens.0, (opens.1, subst (λ (x : Draft). Passes rule_format x (act_words acts) (listed h acts)) (listed_more h parts.1 [] parts.2) (acts_pass h parts.1 [] acts begun.1 (omega arith)))))
+      (listing h [], (opens.0, (opens.1, subst (λ (x : Draft). Passes rule_format x (act_words acts) (after_acts h acts)) (listed_more h parts.1 [] parts.2) (acts_pass h parts.1 [] acts begun.1 (omega arith)))))
 
   action_due : length acts < h.actions → Passes rule_format blank (word_of_head h.switches h.actions h.start ∷ act_words acts) (listing h acts)
   action_due less =

@@ -69,8 +69,8 @@ pub data Draft : Type 0 where
   whole : RuleHead → List Act → Draft  -- the end is due
 
 -- with these actions read
-abbrev pub listed : RuleHead → List Act → Draft
-listed h acts = if nat_lt (length acts) h.actions then listing h acts else whole h acts
+abbrev pub after_acts : RuleHead → List Act → Draft
+after_acts h acts = if nat_lt (length acts) h.actions then listing h acts else whole h acts
 
 abbrev pub act_of : Masks → List Effect → Act
 act_of m es = record { on = m.first; off = m.second; effects = es }
@@ -82,7 +82,7 @@ effect_of m = record { set = m.first; clear = m.second; weight = m.count }
 abbrev pub filled : RuleHead → List Act → Masks → List Effect → Step Draft
 filled h acts m es =
     if nat_lt (length es) m.count then more (inside h acts m es)
-    else check (total es == 8) WrongTotal (more (listed h (acts ++ (act_of m es ∷ []))))
+    else check (total es == 8) WrongTotal (more (after_acts h (acts ++ (act_of m es ∷ []))))
 
 unfoldable pub read_word : Draft → ℕ → Step Draft
 read_word blank w = onto (head_of w) (λ h. more (listing h []))

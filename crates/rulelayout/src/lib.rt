@@ -77,7 +77,6 @@ pub fn read_head(word: u32) -> Result<RuleHead, Refusal>
 
 /// The fields of an action's word or of an outcome's, as its kind says, in a book with so many switches; or what is wrong with it:
 /// WrongKind, UnusedBit, OutOfRange or SwitchTwice, tested in this order.
-// It answers for every number as the kind: an enum in its place would ask more of callers.
 pub fn read_masks(kind: u32, switches: u32, word: u32) -> Result<Masks, Refusal>
     ensures { result ≡ masks_of kind switches word }
 {
@@ -99,7 +98,6 @@ pub fn read_masks(kind: u32, switches: u32, word: u32) -> Result<Masks, Refusal>
 }
 
 /// The weights of at most eight outcomes together, in eighths; there is no answer for more.
-// It takes any slice: a list of at most eight in its place would ask more of callers.
 pub fn total_weight(effects: &[Effect]) -> Option<u32>
     ensures { MatchOption result (8 < length effects.now)
         (λ sum. (length effects.now ≤ 8) × (sum ≡ total effects.now)) }

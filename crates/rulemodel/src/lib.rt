@@ -33,7 +33,6 @@ pub fn needs_met(s: u64, on: u16, off: u16) -> bool
 }
 
 // The place of the outcome with this target.
-// Tried inline: the answers of `with_landing`, its one caller, do not fit then.
 fn place_of(ways: &[Outcome], target: u64) -> Option<usize>
     ensures { result ≡ position (λ way. target == way.target) ways.now }
 {
@@ -60,7 +59,6 @@ fn with_landing(mut ways: Outcomes, target: u64, weight: u8) -> Outcomes
 
 /// The outcomes in a state of an action with these effects: those that land alike are one, at the first one's place, with their
 /// weights added. More than eight effects, or more than eight eighths, are no action's and have no outcomes.
-// It takes any slice: a list of at most eight in its place would ask more of callers.
 pub fn outcomes_of(s: u64, effects: &[Effect]) -> Outcomes
     ensures outcomes { listed result ≡ outcomes_from s effects.now }
     ensures gathered { length effects.now ≤ 8 → total effects.now ≤ 8

@@ -19,8 +19,8 @@ pub record Held : Type 0 where
   pub mask : ℕ
   pub at : ℕ
 
-abbrev pub held : Store → Held
-held s =
+abbrev pub held_by : Store → Held
+held_by s =
     record { book = site_of s.tables; room = vec_capacity s.tables.marks; mask = s.mask; at = s.at }
 
 -- no state, room for those of the head, and cells that offer nothing for all of them

@@ -15,7 +15,6 @@ pub use reading::read_site;
 
 /// A valid site book, and the ground model that it is: its states are the numbers below the count of its states, and each is its own ground.
 // `bound` is the largest size of a reward.
-// What it says is one value, `contents`, of which the laws speak; an `impl Model` would name that a second time.
 #[derive(Drop)]
 pub struct SiteBook {
     tables: Tables,

@@ -1,6 +1,6 @@
 // The tables of a book while it is being stored, word by word. All that they need is allocated before the first word.
 ghost use Rattle.std.specs.Prelude.{◌≡◌, IfOk};
-ghost use Rattle.sitebook.specs.Storing.{held, nothing, put_of};
+ghost use Rattle.sitebook.specs.Storing.{held_by, nothing, put_of};
 
 use crate::tables::Tables;
 use bounded::Bounded;
@@ -19,7 +19,7 @@ pub struct Store {
 impl Store {
     // Nothing yet, with room for all of the book: nothing is offered.
     pub fn with_room(heap: Global, counts: Counts) -> Result<Store, AllocError>
-        ensures { IfOk result (λ s. held s ≡ nothing counts.head) }
+        ensures { IfOk result (λ s. held_by s ≡ nothing counts.head) }
     {
         let states = counts.head.states as usize;
         let count = states * counts.head.actions as usize;
@@ -39,7 +39,7 @@ impl Store {
 
     // What the next word of the book says. An end word says nothing more, and no other kind comes in a book.
     pub fn put(&mut self, word: u32)
-        ensures { held self.new ≡ put_of (held self.old) word }
+        ensures { held_by self.new ≡ put_of (held_by self.old) word }
     {
         match Kind::try_from(word) {
             Ok(Kind::Head) => {

@@ -23,7 +23,7 @@ use Rattle.sitelayout.specs.Layout.{Draft, marking, listing, moving, place_of, p
 use Rattle.sitelayout.proofs.Account.{padded-length, either_way}
 use Rattle.siteverdict.specs.declared.Counts.{Counts}
 use Rattle.siteverdict.specs.Counting.{size, Counted}
-use Rattle.siteverdict.specs.Tracking.{Marked, Tabled, Leads}
+use Rattle.siteverdict.specs.Tracking.{TracksMarks, Tabled, Leads}
 use Rattle.siteverdict.proofs.Waiting.{bound-push, moves_filled, waits-append, waits_more, none_filled, waits_all}
 
 -- what a word says that is read well, and what it comes to
@@ -76,7 +76,7 @@ module _ {X : Type 0} (At : X → Draft → Type 0) (h : Head) (ms : List Mark) 
   moved_right answer (suc k) last eight on = absurd (omega arith)
 
 -- one state more
-pub mark_more : (h : Head) (n most top : ℕ) (ms : List Mark) (mark : Mark) → Marked h n most ms → n + 1 < h.states → top ≡ max most (size mark.worth.raised) → (ns : List Mark) × ((marked h (ms ++ (mark ∷ [])) ≡ marking h ns None) × Marked h (n + 1) top ns)
+pub mark_more : (h : Head) (n most top : ℕ) (ms : List Mark) (mark : Mark) → TracksMarks h n most ms → n + 1 < h.states → top ≡ max most (size mark.worth.raised) → (ns : List Mark) × ((marked h (ms ++ (mark ∷ [])) ≡ marking h ns None) × TracksMarks h (n + 1) top ns)
 mark_more h n most top ms mark of room most_is =
     let long : length (ms ++ (mark ∷ [])) ≡ n + 1 = omega (arith, length_push ms mark, of.read) in (
       ms ++ (mark ∷ []),
@@ -87,7 +87,7 @@ mark_more h n most top ms mark of room most_is =
     )
 
 -- the last one: no entry is read yet
-pub mark_last : (h : Head) (n most top : ℕ) (ms : List Mark) (mark : Mark) → Marked h n most ms → n < h.states → h.states ≤ n + 1 → top ≡ max most (size mark.worth.raised)
+pub mark_last : (h : Head) (n most top : ℕ) (ms : List Mark) (mark : Mark) → TracksMarks h n most ms → n < h.states → h.states ≤ n + 1 → top ≡ max most (size mark.worth.raised)
     → (ns : List Mark) × ((cs : List (List Move)) × ((marked h (ms ++ (mark ∷ [])) ≡ listing h ns cs) × Tabled (record { head = h; moves = 0; bound = top }) 0 0 ns cs))
 mark_last h n most top ms mark of room last most_is =
     let long : length (ms ++ (mark ∷ [])) ≡ h.states = omega (arith, length_push ms mark, of.read) in (

@@ -17,7 +17,7 @@ use Rattle.siteverdict.specs.declared.Counts.{Counts}
 use Rattle.siteverdict.specs.Counting.{bound_of, moves_in}
 
 -- the states read so far: so many, and the largest size of a reward
-pub record Marked (h : Head) (count most : ℕ) (ms : List Mark) : Type 0 where
+pub record TracksMarks (h : Head) (count most : ℕ) (ms : List Mark) : Type 0 where
   pub acts : 1 ≤ h.actions
   pub read : length ms ≡ count
   pub bound : bound_of ms ≡ most
@@ -45,12 +45,12 @@ pub record Opened (o : Open) (ms : List Mark) (cs : List (List Move))
 -- by what is due next
 
 abbrev pub AtMask : Marks → Draft → Type 0
-AtMask m d = (ms : List Mark) × ((d ≡ marking m.head ms None) × Marked m.head m.read m.bound ms)
+AtMask m d = (ms : List Mark) × ((d ≡ marking m.head ms None) × TracksMarks m.head m.read m.bound ms)
 
 abbrev pub AtReward : Marks → Draft → Type 0
 AtReward m d =
     (ms : List Mark)
-    × ((k : ℕ) × ((d ≡ marking m.head ms (Some k)) × Marked m.head m.read m.bound ms))
+    × ((k : ℕ) × ((d ≡ marking m.head ms (Some k)) × TracksMarks m.head m.read m.bound ms))
 
 abbrev pub AtEntry : Table → Draft → Type 0
 AtEntry t d =

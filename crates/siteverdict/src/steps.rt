@@ -31,7 +31,6 @@ impl Draft for State {
         State::Fresh
     }
 
-    // A match on what is due: the same word means different things by it, which closures or a table of steps would say no plainer.
     fn step(&mut self, word: u32) -> Result<Turn, Refusal> {
         *self = match *self {
             State::Fresh => State::Mask(Marks::head(word)?),

@@ -76,7 +76,8 @@ pub fn plan_by<P: Pile>(
     weighing: WeighBy,
     horizon: usize,
 ) -> Result<Plan, Unplanned>
-    ensures { PlansOr (weigh_of weighing) (P.Pile.piling pile.now) horizon result }
+    ensures plan { PlansOr (weigh_of weighing) (P.Pile.piling pile.now) horizon result }
+    ensures meaning { P.SiteModel.meaning pile.now ≡ (P.Pile.piling pile.now).model }
 {
     match weighing {
         WeighBy::Mean => planned(heap, pile, &Mean, horizon),

@@ -2,7 +2,9 @@
 use Rattle.std.specs.Prelude.{◌≡◌, ℕ, ◌+◌, ◌*◌, ◌/◌, ◌<◌, ◌≤◌, List, [], ◌∷◌, length, slice_index}
 
 abbrev pub discounts : List ℕ
-discounts = 256 ∷ (240 ∷ (225 ∷ (210 ∷ (196 ∷ (183 ∷ (171 ∷ (160 ∷ (150 ∷ (140 ∷ (131 ∷ (122 ∷ (114 ∷ []))))))))))))
+discounts =
+    256
+    ∷ (240 ∷ (225 ∷ (210 ∷ (196 ∷ (183 ∷ (171 ∷ (160 ∷ (150 ∷ (140 ∷ (131 ∷ (122 ∷ (114 ∷ []))))))))))))
 
 -- the discount of a slot, 0 past the last
 abbrev pub discount_of : ℕ → ℕ

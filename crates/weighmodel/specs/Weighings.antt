@@ -33,7 +33,8 @@ pub record LawfulWeigh (w : Weigh) : Type 0 where
   pub raising : (x y : ℤ) (k : ℕ) (u v : ℤ) → x ≤ℤ y → u ≤ℤ v → w.join x k u ≤ℤ w.join y k v
 
 abbrev pub mean : Weigh
-mean = record { unit = 8; first = pos 0; join = λ x k v. held (held x +ℤ (pos (min k 8) *ℤ held v)) }
+mean =
+    record { unit = 8; first = pos 0; join = λ x k v. held (held x +ℤ (pos (min k 8) *ℤ held v)) }
 
 abbrev pub worst : Weigh
 worst = record { unit = 1; first = most; join = λ x k v. int_min (held x) (held v) }

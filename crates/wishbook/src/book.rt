@@ -8,7 +8,6 @@ use formula::{Item, Node};
 use wishlayout::Wish;
 
 /// A valid wish book, its equal nodes merged (docs/FORMATS.md, "Wish book").
-// What it says is one value, `contents`, of which the laws speak; an `impl Model` would name that a second time.
 #[derive(Clone, Copy)]
 pub struct WishBook {
     pub(crate) nodes: Bounded<Node, 128>,

@@ -58,7 +58,6 @@ pub fn is_last(word: u32, place: usize, rest: &[u8]) -> bool
 
 /// A word of this kind, whose fields are its lowest `width` bits: any other kind is refused with `WrongKind`, and then a bit above
 /// them with `UnusedBit` (docs/REFUSALS.md, "Reading").
-// The kind is a number here: three formats have each an enum of their own, and a trait over them would be a second name for `as u32`.
 pub fn open(word: u32, kind: u32, width: u32) -> Result<(), Refusal>
     ensures { result ≡ opened kind width word }
 {

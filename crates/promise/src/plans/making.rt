@@ -108,7 +108,7 @@ fn prepare<P: Pile>(
     ensures bytes { bytes.new ≡ table_after
         (outcome (P.SiteModel.meaning pile.now) (length codes.old) (length bytes.old))
         (length bytes.old) (file (site_words (out_book (P.SiteModel.meaning pile.now)))) }
-    ensures pile { Promises (P.Pile.piling pile.now) }
+    ensures pile { Promises (P.SiteModel.meaning pile.now) (P.Pile.piling pile.now) }
 {
     let written = write_pile(pile, codes, &mut *bytes)?;
     check_sizes(written.states, horizon, worths, choices)?;
@@ -146,7 +146,7 @@ pub fn plan_pile<P: Pile, W: Weighing>(
         result }
     ensures nobody { NobodyEarnsMore (W.meaning weighing.now) (P.Pile.piling pile.now) horizon
         result }
-    ensures pile { Promises (P.Pile.piling pile.now) }
+    ensures pile { Promises (P.SiteModel.meaning pile.now) (P.Pile.piling pile.now) }
 {
     let (worths, choices) = (tables.worths.len(), tables.choices.len());
     let Ready {

@@ -8,7 +8,7 @@ ghost use Rattle.sitelayout.specs.WordTests.{may_end, passes, closes};
 ghost use Rattle.siteverdict.specs.Counting.{Counted};
 ghost use Rattle.sitebook.specs.Contents.{contents};
 ghost use Rattle.sitebook.specs.Reading.{Reads};
-ghost use Rattle.sitebook.specs.Storing.{held, nothing};
+ghost use Rattle.sitebook.specs.Storing.{held_by, nothing};
 
 use crate::book::SiteBook;
 use crate::store::Store;
@@ -35,7 +35,7 @@ pub fn read_site(heap: Global, bytes: &[u8]) -> Result<SiteBook, Unread>
 // book is missing, so nothing is refused.
 fn stored(mut store: Store, bytes: &[u8], counts: Counts) -> Result<SiteBook, Fault>
     requires known { (b : Site) × ((reading site_format bytes.now ≡ got b) × Counted counts b) }
-    requires unwritten { held store ≡ nothing counts.head }
+    requires unwritten { held_by store ≡ nothing counts.head }
     ensures { MatchResult result (λ k. reading site_format bytes.now ≡ got (contents k)) (λ _. ⊥) }
 {
     let mut rest = bytes;

@@ -63,7 +63,7 @@ own g c = with_meaning (g.P.SiteModel.meaning c.args.pile.now) (g.P.Pile.piling 
 own_is : (g : Over) (c : goal.After-result-1 g) → own g c ≡ g.P.Pile.piling c.args.pile.now
 own_is g c = meaning_is _ _ (g.met.P.Pile.laid c.args.pile.now)
 
-own_promised : (g : Over) (c : goal.After-result-1 g) → Promises (own g c)
+own_promised : (g : Over) (c : goal.After-result-1 g) → Promises (g.P.SiteModel.meaning c.args.pile.now) (own g c)
 own_promised g c = on_meaning _ _ (g.met.P.Pile.laid c.args.pile.now) c.prepare.ensures.pile
 
 pub returns-clause-plan : goal.returns-clause-plan

@@ -3,7 +3,7 @@ use Rattle.bounded.specs.Listed.{listed}
 use Rattle.sitelayout.specs.declared.kind.Kind.TheVariants.{Move}
 use Rattle.sitelayout.specs.Kinds.{kind_of}
 use Rattle.sitelayout.specs.OneWord.{move_in}
-use Rattle.sitebook.specs.Storing.{held, put_as}
+use Rattle.sitebook.specs.Storing.{held_by, put_as}
 use Rattle.sitebook.proofs.Cells.{added, added_at}
 use Rattle.sitebook.proofs.store.Store.put.Goals as goal
 
@@ -17,4 +17,4 @@ returns-in-Some c =
     added_at t.cells.items c.args.self.now.at c.in-Some.cell.now c.push.new.self (move_in c.args.word) (omega (arith, c.in-Some.ensures.variant.0 refl, t.cells.ok.0)) c.in-Some.ensures.value
     (subst (λ m. listed c.push.new.self ≡ take 8 (listed c.in-Some.cell.now ++ (m ∷ []))) c.move_in.ensures one) in
     (λ i. record { book = record { labels = t.labels; actions = t.actions; marks = t.marks.items; cells = cells i }; room = t.marks.cap; mask = c.args.self.now.mask; at = c.args.self.now.at })
-    ∙ ap (λ k. put_as k (held c.args.self.now) c.args.word) (sym said)
+    ∙ ap (λ k. put_as k (held_by c.args.self.now) c.args.word) (sym said)
