@@ -1,7 +1,7 @@
 -- When a formula holds at a position of a record, as it is told to a person (docs/FORMATS.md, "Truth of a formula"). A record shows a label
 -- mask at each position, counted from 0. `holds` is the verdict as a Boolean, with bounded quantifiers; `IsTrueAt` is the plain reading,
 -- "there is" and "for all". Nothing here remembers anything from one position to the next.
-use Rattle.std.specs.Prelude.{◌≡◌, ℕ, zero, suc, ◌<◌, ◌≤◌, ◌↔◌, Bool, true, false, ⊤, IsTrue, not, ◌&&◌, ◌||◌, ◌⊎◌, nat_lt}
+use Rattle.std.specs.Prelude.{◌≡◌, ℕ, zero, suc, ◌/◌, ◌%◌, ◌^◌, ◌<◌, ◌≤◌, ◌↔◌, Bool, true, false, ⊤, IsTrue, not, ◌&&◌, ◌||◌, ◌⊎◌, nat_lt}
 pub use Rattle.model.specs.Masks.{labelled}
 use Rattle.formula.specs.Formulas.{Formula, atom, truth, negation, conjunction, disjunction, previously, since, always, sometime}
 
