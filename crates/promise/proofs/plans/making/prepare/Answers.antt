@@ -1,4 +1,4 @@
-use Rattle.std.proofs.Common.{◌≡◌, ◌*◌, ◌≤◌, length, take, Some, Ok, Err, sym, ap, ◌∙◌, subst, arith, mul-le-mul}
+use Rattle.std.proofs.Common.{◌≡◌, ◌*◌, ◌≤◌, length, take, Some, Ok, Err, sym, ap, ◌∙◌, subst, arith, mul-le-mul, rules}
 use Rattle.planning.proofs.Accepting.{accepted_short}
 use Rattle.refusal.proofs.Rows.{refused_by, unrefused}
 use Rattle.planning.specs.Plans.{sizes_refusal}
@@ -94,3 +94,11 @@ returns-clause-answer g c =
     let sizes = unrefused (sizes_refusal w.states c.args.horizon c.args.worths c.args.choices) tt tt (sym c.check_sizes.ensures ∙ c.in_ok-check_sizes.was) in
     let states = states_are m c.args.horizon (length c.args.codes.now) (length c.args.bytes.now) c.args.worths c.args.choices book w out in
     (out, same, ap (λ n. sizes_refusal n c.args.horizon c.args.worths c.args.choices) (sym states) ∙ sizes)
+
+pub read_back-requires-clause-room : goal.read_back-requires-clause-room
+read_back-requires-clause-room g c =
+    let m = g.P.SiteModel.meaning c.args.pile.now in
+    let w = c.in_ok-written.written in
+    let told = wrote m (length c.args.codes.now) (length c.args.bytes.now) w (sym c.write_pile.ensures.answer ∙ c.in_ok-written.was) in
+    let same : length c.write_pile.new.bytes ≡ length c.args.bytes.now = search rules in
+    omega (arith, told.room, told.words, same)
