@@ -29,7 +29,7 @@ renamed_roots numbers [] = refl
 renamed_roots numbers (w ∷ ws) = ap (λ l. get_or numbers w.node 0 ∷ l) (renamed_roots numbers ws)
 
 -- the items over the different nodes are those of the words
-items_same : (ns : List Node) (ws : List Wish) → items_over (nodes_of ns) (map (renamed (numbers_of ns)) ws) ≡ items_for ns ws
+pub items_same : (ns : List Node) (ws : List Wish) → items_over (nodes_of ns) (map (renamed (numbers_of ns)) ws) ≡ items_for ns ws
 items_same ns ws = ap (λ roots. kept_items (nodes_of ns) (resting (nodes_of ns) roots)) (renamed_roots (numbers_of ns) ws)
 
 renamed_good : (ns : List Node) (ws : List Wish) → KeepsFormulas ns → all (good_wish (length ns)) ws ≡ true → all (good_wish (length (nodes_of ns))) (map (renamed (numbers_of ns)) ws) ≡ true
@@ -42,7 +42,7 @@ renamed_good ns (w ∷ ws) f each =
     (renamed_good ns ws f parts.1)
 
 -- the book's operands number earlier nodes, and its wishes name nodes
-whole_sound : (ns : List Node) (ws : List Wish) → earlier ns ≡ true → all (good_wish (length ns)) ws ≡ true → sound (nodes_of ns) (map (renamed (numbers_of ns)) ws) ≡ true
+pub whole_sound : (ns : List Node) (ws : List Wish) → earlier ns ≡ true → all (good_wish (length ns)) ws ≡ true → sound (nodes_of ns) (map (renamed (numbers_of ns)) ws) ≡ true
 whole_sound ns ws e each =
     let f = faithful ns e in
     and_from (earlier (nodes_of ns)) (all (good_wish (length (nodes_of ns))) (map (renamed (numbers_of ns)) ws)) f.still_earlier (renamed_good ns ws f each)

@@ -1,5 +1,6 @@
-use Rattle.std.proofs.Common.{◌<◌, Some, length, take, ap, ◌∙◌, arith, rules}
+use Rattle.std.proofs.Common.{◌≡◌, ◌<◌, Some, length, take, ◌∙◌, arith, rules}
 use Rattle.std.proofs.lemmas.List.{take_all}
+use Rattle.std.proofs.Math.Seq.{take-append_seam}
 use Rattle.bounded.specs.Listed.{listed}
 use Rattle.register.specs.Register.{keys_of}
 use Rattle.formula.proofs.Faithful.{faithful}
@@ -30,10 +31,10 @@ loop-word-preserved c =
 
 pub returns-clause-answer : goal.returns-clause-answer
 returns-clause-answer c =
-    let all = reached_all c.loop-word.invariant.reached (omega arith) in (
+    let all = reached_all c.loop-word.invariant.reached (omega arith) in
+    let read : listed c.from_slice.result ≡ take 128 (keys_of c.loop-word.register) = search (rules, take-append_seam, take_all) in (
       c.if-words-gt-NODES.false,
-      c.from_slice.ensures
-          ∙ ap (take 128) c.as_slice.ensures
+      read
           ∙ take_all 128 _ (omega (arith, few_nodes c.loop-word.invariant.reached, c.if-words-gt-NODES.false))
           ∙ all.0,
       all.1,
