@@ -1,5 +1,5 @@
 -- What a memory recalls of an item that has a place: the bit at that place; and how that is entered in tables by node number.
-use Rattle.std.proofs.Common.{◌≡◌, ℕ, ◌+◌, ◌/◌, ◌%◌, ◌^◌, ◌<◌, ◌≤◌, Bool, true, false, cond, eqb, ltb, lt_of_lt_of_le, List, [], ◌∷◌, ◌++◌, map, length, get_or, drop, replicate, Some, None, Option, sym, refl, ap, ◌∙◌, subst, inl, inr, append_assoc, arith}
+use Rattle.std.proofs.Common.{◌≡◌, ℕ, ◌+◌, ◌/◌, ◌%◌, ◌^◌, ◌<◌, ◌≤◌, Bool, true, false, cond, eqb, ltb, lt_of_lt_of_le, List, [], ◌∷◌, ◌++◌, map, length, get_or, take, drop, replicate, Some, None, Option, sym, refl, ap, ◌∙◌, subst, inl, inr, append_assoc, arith}
 use Rattle.std.specs.List.{Contains, position_or_len, position_from}
 use Rattle.std.specs.Option.{option_map_or}
 use Rattle.std.proofs.lemmas.Iterator.Adapters.{position_from-zero}
@@ -10,11 +10,12 @@ use Rattle.std.proofs.lemmas.List.Sums.{fails_before_first, passes_at_first}
 use Rattle.formula.specs.declared.Item.{Item}
 use Rattle.formula.specs.declared.Item.TheVariants.{Held, Failed}
 use Rattle.truth.specs.Truth.{labelled}
+use Rattle.formula.specs.declared.Node.{Node}
 use Rattle.formula.specs.Resting.{resting}
 use Rattle.formula.proofs.Chosen.{selected}
 use Rattle.wishbook.specs.Book.{Book}
 use Rattle.layermodel.specs.declared.recalled.Recalled.{Recalled}
-use Rattle.layermodel.specs.Verdicts.{node_of, same_item, recalled, recalled_by}
+use Rattle.layermodel.specs.Verdicts.{node_of, same_item, recalled, recalled_by, verdicts}
 use Rattle.layermodel.specs.Records.{SoundBook}
 
 same_is : (x y : Item) → same_item x y ≡ true → x ≡ y
@@ -125,3 +126,7 @@ module _ (b : Book) (ok : SoundBook b) (few : length b.nodes ≤ 128) (memory : 
   pub tables_recall : (r : Recalled) → ((x : Item) → node_of x < 128 → recalled_by r x ≡ recalled b.items memory x) → (x : Item) → recalled_by r x ≡ recalled b.items memory x
   tables_recall r low (Held i) = elim (cases_lt i 128) [ inl l ↦ low (Held i) l | inr far ↦ get_or_past r.held i false (omega (arith, r.sizes.0)) ∙ past_all (Held i) far ]
   tables_recall r low (Failed i) = elim (cases_lt i 128) [ inl l ↦ low (Failed i) l | inr far ↦ get_or_past r.failed i false (omega (arith, r.sizes.1)) ∙ past_all (Failed i) far ]
+
+-- equal answers to what is recalled give equal verdicts
+pub judged : (mask : ℕ) (told recalls : Item → Bool) (ns nodes : List Node) (known : List Bool) → take (length ns) known ≡ verdicts mask told ns → told ≡ recalls → ns ≡ nodes → take (length nodes) known ≡ verdicts mask recalls nodes
+judged mask told recalls ns nodes known e same is = ap (λ (l : List Node). take (length l) known) (sym is) ∙ e ∙ (λ k. verdicts mask (same k) (is k))

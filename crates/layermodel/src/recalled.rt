@@ -4,6 +4,7 @@ ghost use Rattle.truth.specs.Truth.{labelled};
 
 use crate::verdicts::at;
 use formula::Item;
+use wishbook::WishBook;
 
 // Whether a bit of a memory is set, the lowest being bit 0. Bits past the 64th are none.
 #[tactic(auto, using(crate::proofs::Recalling::no_bit_past))]
@@ -33,14 +34,15 @@ pub(crate) struct Recalled {
 impl Recalled {
     ghost use Rattle.std.specs.Prelude.{◌<◌, if◌then◌else◌};
     ghost use Rattle.formula.specs.declared.Item.{Item};
+    ghost use Rattle.wishbook.specs.Contents.{contents};
     ghost use Rattle.layermodel.specs.Verdicts.{node_of, same_item, recalled, recalled_by};
 
-    // The bits of a memory, the first item having the lowest. They are entered from the last item to the
-    // first: an item that stood twice would have its first bit.
-    pub(crate) fn of(items: &[Item], memory: u64) -> Recalled
-        ensures { (x : Item) → node_of x < 128
-            → recalled_by result x ≡ recalled items.now memory x }
+    // The bits of a memory of a book, the first item having the lowest. They are entered from the last item to
+    // the first: an item that stood twice would have its first bit.
+    pub(crate) fn of(book: &WishBook, memory: u64) -> Recalled
+        ensures { recalled_by result ≡ recalled (contents book.now).items memory }
     {
+        let items = book.items();
         let mut all = Recalled {
             held: [false; 128],
             failed: [false; 128],

@@ -55,5 +55,5 @@ pub fn judge(book: &WishBook, mask: u32, memory: u64) -> [bool; 128]
     ensures { take (length (contents book.now).nodes) result ≡
         verdicts_in (contents book.now) mask memory }
 {
-    truths(book.nodes(), mask, &Recalled::of(book.items(), memory))
+    truths(book.nodes(), mask, &Recalled::of(book, memory))
 }
