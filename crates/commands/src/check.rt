@@ -27,8 +27,8 @@ pub enum Kind {
 pub fn run<R: Files + Print + AllocGlobal>(rt: &R, kind: &str, file: &str) -> anyhow::Result<u8>
     ensures { IfOk result (TellsFile kind.now) }
 {
-    let kind = kind_of(kind)?;
     let bytes = fs::read(rt, file).context(format_args!("{file}"))?;
+    let kind = kind_of(kind)?;
     checked(rt, kind, bytes.as_slice())
 }
 
