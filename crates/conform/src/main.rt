@@ -97,10 +97,10 @@ pub fn unhex(heap: Global, text: &str) -> Result<Vec<u8>, Failure> {
     if text == "-" {
         return Ok(bytes);
     }
-    for pair in text.as_bytes().chunks(2) {
-        let [high, low] = pair else {
-            return Err(Failure::Unknown);
-        };
+    let (pairs, []) = text.as_bytes().as_chunks::<2>() else {
+        return Err(Failure::Unknown);
+    };
+    for [high, low] in pairs {
         bytes.push(16 * digit(*high)? + digit(*low)?)?;
     }
     Ok(bytes)
