@@ -21,8 +21,8 @@ const MOST: usize = 4096;
 /// "Writing out". What the register held before is dropped.
 ///
 /// # Errors
-/// `TooManyStates` where there are more than the register's table or a book (4,096) holds. The register
-/// then lists some codes, at most 4,096, and the table is as it was after them.
+/// `TooManyStates` where there are more than the register's table or a book (4,096) holds. The
+/// register then lists some codes, at most 4,096, and the table is as it was after them.
 pub fn search<M: SiteModel>(m: &M, codes: &mut Register<u64>) -> Result<(), Refusal>
     ensures answer { Searched (M.SiteModel.meaning m.now) (room_in (length codes.old.keys.now))
         (keys_of codes.new) result }
@@ -62,8 +62,8 @@ fn add_outcomes(outcomes: &Outcomes, codes: &mut Register<u64>) -> Result<(), Re
     Ok(())
 }
 
-// Adds one state, unless it is listed. Where a book's worth are listed it only looks for the state, and
-// enters none: what lies in the table past them is the caller's.
+// Adds one state, unless it is listed. Where a book's worth are listed it only looks for the state:
+// what lies in the table past them is the caller's.
 fn list(codes: &mut Register<u64>, code: u64) -> Result<(), Refusal>
     ensures { AddsCodes (code ∷ []) codes.old codes.new result }
 {
