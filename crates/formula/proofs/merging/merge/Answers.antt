@@ -43,6 +43,9 @@ returns-clause-answer c =
 pub returns-then-words-gt-NODES-clause-faithful : goal.returns-then-words-gt-NODES-clause-faithful
 returns-then-words-gt-NODES-clause-faithful c = faithful c.args.words.now
 
+pub returns-then-words-le-FEW-clause-faithful : goal.returns-then-words-le-FEW-clause-faithful
+returns-then-words-le-FEW-clause-faithful c = faithful c.args.words.now
+
 pub returns-in_err-place-clause-faithful : goal.returns-in_err-place-clause-faithful
 returns-in_err-place-clause-faithful c = faithful c.args.words.now
 
