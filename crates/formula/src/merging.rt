@@ -48,6 +48,14 @@ pub fn merge(words: &[Node]) -> Option<Merged>
     if words.len() <= FEW {
         return merge_few(words);
     }
+    merge_many(words)
+}
+
+// Merges more words, by a register with an index. A function of its own: what it keeps is wiped where it begins.
+fn merge_many(words: &[Node]) -> Option<Merged>
+    requires { length words.now ≤ 128 }
+    ensures { Merges words.now result }
+{
     let mut table = [Node::default(); NODES];
     let mut register = Register::new(&mut table);
     let mut numbers = Bounded::new();
