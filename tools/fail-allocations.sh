@@ -1,7 +1,7 @@
 #!/usr/bin/env bash
 # Lets each allocation fail in turn, first in the tests of crates/memorytests and then in the main job, until a run has none left that
 # could fail. The tests take a whole answer, or want of memory with every table as the contracts say; the main job ends with status 1,
-# tells of memory, and has printed nothing wrong till then. Nothing is proved here: `rt try` builds and runs.
+# tells of memory, and has printed nothing wrong till then; where the site book finds no room, that is its last line. Nothing is proved here: `rt try` builds and runs.
 set -eu
 cd "$(dirname "$0")/.."
 out=$(mktemp)
@@ -30,10 +30,15 @@ whole=0
 while [ "$whole" -lt 3 ]; do
     status=0
     (cd crates/moratennis && rt try --fail-alloc "$n") >"$out" 2>"$err" || status=$?
+    word=memory
+    if [ "$(tail -n 1 "$out")" = 'not read: there is not enough memory' ]; then
+        sed -i '$d' "$out"
+        word='the book was not read'
+    fi
     head -c "$(stat -c %s "$out")" crates/moratennis/stdout | cmp -s - "$out" || stopped "the main job printed something else at allocation $n"
     if [ "$status" = 0 ] && cmp -s "$out" crates/moratennis/stdout; then
         whole=$((whole + 1))
-    elif [ "$status" = 1 ] && grep -q '^Error: .*memory' "$err"; then
+    elif [ "$status" = 1 ] && grep -q "^Error: .*$word" "$err"; then
         whole=0
         echo "main job, allocation $n failing: status 1, $(grep -m 1 '^Error: ' "$err")"
     else

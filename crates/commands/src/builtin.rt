@@ -2,13 +2,13 @@
 use crate::build::unplanned;
 use crate::show;
 use crate::show::{Advised, Closed, Did, Seen};
-use anyhow::Context;
+use anyhow::{Context, bail};
 use crossing::{site_words, wish_words};
 use ground::GroundBook;
 use model::{SiteModel, reachable_at};
 use pile::{Floor, Three, Tower, truthful_start};
 use promise::{Journey, Plan, Tables, Walks, plan_and_walk};
-use sitebook::read_site;
+use sitebook::{SiteBook, read_site};
 use slotplan::Room;
 use std::fmt;
 use truth::shows;
@@ -42,7 +42,7 @@ const BLANK: Step = Step {
 pub fn run<R: Print + AllocGlobal>(rt: &R) -> anyhow::Result<()> {
     let heap = rt.alloc();
     println!(rt; "the built-in crossing: label p0 is \"train\", label p1 is \"swept\"")?;
-    let site = read_site(heap, bytes_of(heap, &site_words())?.as_slice())?;
+    let site = site_of(rt, bytes_of(heap, &site_words())?.as_slice())?;
     println!(rt; "site book:")?;
     show::states(rt, &site)?;
     let wish = read_wish(bytes_of(heap, &wish_words())?.as_slice())?;
@@ -57,6 +57,17 @@ pub fn run<R: Print + AllocGlobal>(rt: &R) -> anyhow::Result<()> {
     println!(rt; "a crossing with two trains on the bridge at once:")?;
     follow(rt, &pile)?;
     plan_and_follow(rt, &pile)
+}
+
+// The built-in book is a good one, but for want of memory: that is told as `check` tells it, and is an error here.
+fn site_of<R: Print + AllocGlobal>(rt: &R, bytes: &[u8]) -> anyhow::Result<SiteBook> {
+    match read_site(rt.alloc(), bytes) {
+        Ok(book) => Ok(book),
+        Err(why) => {
+            println!(rt; "{why}")?;
+            bail!("the book was not read")
+        }
+    }
 }
 
 // Slot by slot: the site's state, what is remembered, and whether the wish holds.

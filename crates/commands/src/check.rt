@@ -27,8 +27,8 @@ pub enum Kind {
 pub fn run<R: Files + Print + AllocGlobal>(rt: &R, kind: &str, file: &str) -> anyhow::Result<u8>
     ensures { IfOk result (TellsFile kind.now) }
 {
-    let kind = kind_of(kind)?;
     let bytes = fs::read(rt, file).context(format_args!("{file}"))?;
+    let kind = kind_of(kind)?;
     checked(rt, kind, bytes.as_slice())
 }
 
@@ -94,7 +94,7 @@ fn rule(rt: &impl Print, bytes: &[u8]) -> anyhow::Result<u8>
     told(rt, read_rule(bytes), |book| sizes(rt, "rule", book))
 }
 
-fn wish(rt: &impl Print, bytes: &[u8]) -> anyhow::Result<u8>
+fn wish<R: Print + AllocGlobal>(rt: &R, bytes: &[u8]) -> anyhow::Result<u8>
     ensures { IfOk result (λ status. status ≡ status_of (reading wish_format bytes.now)) }
 {
     told(rt, read_wish(bytes), |book| wishes(rt, book))
@@ -115,7 +115,7 @@ fn sizes<M: Numbered>(rt: &impl Print, kind: &str, model: &M) -> anyhow::Result<
 }
 
 // How much a wish book holds, and its wishes.
-fn wishes(rt: &impl Print, book: &WishBook) -> anyhow::Result<()> {
+fn wishes<R: Print + AllocGlobal>(rt: &R, book: &WishBook) -> anyhow::Result<()> {
     println!(rt;
         "wish book: {} nodes, {} memory items, {} wishes",
         book.nodes().len(),

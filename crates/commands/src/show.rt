@@ -71,14 +71,17 @@ fn write_formula<W: fmt::Write>(f: &mut fmt::Formatter<W>, nodes: &[Node], i: u8
     f.write_str(")")
 }
 
-// Each wish of a book: its amount and its formula.
-pub fn wishes(rt: &impl Print, book: &WishBook) -> anyhow::Result<()> {
+// Each wish of a book: its amount and its formula. Nodes are shared, so a formula can be far longer than its book: its text is made
+// before anything of its line is printed, and one that is too large for the memory is an error.
+pub fn wishes<R: Print + AllocGlobal>(rt: &R, book: &WishBook) -> anyhow::Result<()> {
+    let heap = rt.alloc();
     for wish in book.wishes() {
         let amount = wish.amount();
-        let text = Formula {
+        let formula = Formula {
             nodes: book.nodes(),
             top: wish.node,
         };
+        let text = format!(in heap; "{formula}")?;
         println!(rt; "  {amount} for each slot in which it holds: {text}")?;
     }
     Ok(())

@@ -20,7 +20,7 @@ fn ground_of(heap: Global, kind: Kind, bytes: &[u8]) -> Result<GroundBook, Failu
 // A book that is to be laid, or to be laid on, has to be one; why it is none is not told.
 fn unreadable(failure: Failure) -> Failure {
     match failure {
-        Failure::Memory => failure,
+        Failure::Memory | Failure::NoRoom(_) => failure,
         _ => Failure::Unreadable,
     }
 }

@@ -4,7 +4,8 @@ use refusal::{Fault, Refusal, Unread};
 use std::alloc::{AllocError, AllocFailed};
 use std::fmt;
 
-// A book is faulty at a word; what is asked of a model that was built is refused as a whole.
+// A book is faulty at a word; what is asked of a model that was built is refused as a whole. That there is no memory to read a book or to
+// plan is an answer; where there is no room for a command's own words and bytes, or for its answer, it has none.
 #[derive(Clone, Copy, Debug, PartialEq, Eq)]
 pub enum Failure {
     Unknown,
@@ -13,6 +14,7 @@ pub enum Failure {
     Faulty(Fault),
     Refused(Refusal),
     Memory,
+    NoRoom(AllocError),
 }
 
 impl fmt::Display for Failure {
@@ -25,7 +27,7 @@ impl fmt::Display for Failure {
                 write!(f, "refused {} {}", fault.refusal.number(), fault.place)
             }
             Failure::Refused(refusal) => write!(f, "refused {}", refusal.number()),
-            Failure::Memory => f.write_str("no memory"),
+            Failure::Memory | Failure::NoRoom(_) => f.write_str("no memory"),
         }
     }
 }
@@ -65,13 +67,13 @@ impl From<Unplanned> for Failure {
 }
 
 impl From<AllocError> for Failure {
-    fn from(_error: AllocError) -> Failure {
-        Failure::Memory
+    fn from(error: AllocError) -> Failure {
+        Failure::NoRoom(error)
     }
 }
 
 impl<T: Drop> From<AllocFailed<T>> for Failure {
-    fn from(_failed: AllocFailed<T>) -> Failure {
-        Failure::Memory
+    fn from(failed: AllocFailed<T>) -> Failure {
+        Failure::NoRoom(failed.into())
     }
 }

@@ -1,15 +1,25 @@
 // Laying wish books, one after another, on a ground model.
 use crate::built::build;
 use crate::failure::Failure;
+use crate::words_of;
 use model::SiteModel;
 use std::alloc::Global;
 
+// Nor is it told that there is no memory to read the ground book.
+fn unread(failure: Failure) -> Failure {
+    match failure {
+        Failure::Memory => Failure::Unreadable,
+        _ => failure,
+    }
+}
+
 // `KIND HEX HEX ..`: a ground model, and wish books to be laid on it.
-pub fn answer(heap: Global, words: &[&str]) -> Result<String, Failure> {
-    let [kind, hex, wishes @ ..] = words else {
+pub fn answer(heap: Global, words: &str) -> Result<String, Failure> {
+    let words = words_of(heap, words)?;
+    let [kind, hex, wishes @ ..] = words.as_slice() else {
         return Err(Failure::Unknown);
     };
-    let built = build(heap, kind, hex, wishes)?;
+    let built = build(heap, kind, hex, wishes).map_err(unread)?;
     let mut text = String::new(heap);
     for refusal in built.refusals.as_slice() {
         match refusal {

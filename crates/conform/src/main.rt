@@ -19,7 +19,7 @@ use kind::Kind;
 use model::SiteModel;
 use rulebook::read_rule;
 use sitebook::read_site;
-use std::alloc::Global;
+use std::alloc::{AllocError, Global};
 use std::io::{BufRead, BufReader};
 use wishbook::read_wish;
 
@@ -27,11 +27,13 @@ fn main(rt: HostRuntime) -> anyhow::Result<()> {
     run(&rt)
 }
 
+// A command that has no answer, since there is no room for it, ends the run.
 fn run(rt: &HostRuntime) -> anyhow::Result<()> {
     let heap = rt.alloc();
     for line in BufReader::new(heap, rt.stdin())?.lines(heap) {
         match answer(heap, line?.as_str()) {
             Ok(text) => rt.println(text)?,
+            Err(Failure::NoRoom(error)) => return Err(error.into()),
             Err(failure) => println!(rt; "{failure}")?,
         }
     }
@@ -40,21 +42,33 @@ fn run(rt: &HostRuntime) -> anyhow::Result<()> {
 
 // The answer to one command.
 fn answer(heap: Global, line: &str) -> Result<String, Failure> {
-    let words: Vec<&str> = line.split(' ').collect(heap)?;
-    match words.as_slice() {
-        ["lay", words @ ..] => lay::answer(heap, words),
-        ["out", words @ ..] => out::answer(heap, words),
-        ["plan", words @ ..] => plan::answer(heap, words),
-        ["walk", words @ ..] => walking::answer(heap, words),
-        [kind, hex] => book(heap, kind.parse()?, hex),
-        _ => Err(Failure::Unknown),
+    let (command, words) = line.split_once(' ').ok_or(Failure::Unknown)?;
+    match command {
+        "lay" => lay::answer(heap, words),
+        "out" => out::answer(heap, words).map_err(answered),
+        "plan" => plan::answer(heap, words).map_err(answered),
+        "walk" => walking::answer(heap, words).map_err(answered),
+        kind => book(heap, kind, words),
     }
 }
 
+// A command that writes out, plans or walks is answered, whatever there is no memory for.
+fn answered(failure: Failure) -> Failure {
+    match failure {
+        Failure::NoRoom(_) => Failure::Memory,
+        _ => failure,
+    }
+}
+
+// The words of a command that takes several.
+fn words_of(heap: Global, words: &str) -> Result<Vec<&str>, AllocError> {
+    words.split(' ').collect(heap)
+}
+
 // What a book holds.
-fn book(heap: Global, kind: Kind, hex: &str) -> Result<String, Failure> {
+fn book(heap: Global, kind: &str, hex: &str) -> Result<String, Failure> {
     let bytes = unhex(heap, hex)?;
-    match kind {
+    match kind.parse()? {
         Kind::Site => site(heap, bytes.as_slice()),
         Kind::Rule => rule(heap, bytes.as_slice()),
         Kind::Wish => wish(heap, bytes.as_slice()),
@@ -97,10 +111,10 @@ pub fn unhex(heap: Global, text: &str) -> Result<Vec<u8>, Failure> {
     if text == "-" {
         return Ok(bytes);
     }
-    for pair in text.as_bytes().chunks(2) {
-        let [high, low] = pair else {
-            return Err(Failure::Unknown);
-        };
+    let (pairs, []) = text.as_bytes().as_chunks::<2>() else {
+        return Err(Failure::Unknown);
+    };
+    for [high, low] in pairs {
         bytes.push(16 * digit(*high)? + digit(*low)?)?;
     }
     Ok(bytes)

@@ -3,6 +3,7 @@ use crate::built::build;
 use crate::failure::Failure;
 use crate::lists::{Hex, Numbers};
 use crate::numbers::places;
+use crate::words_of;
 use promise::write_pile;
 use std::alloc::Global;
 
@@ -10,8 +11,9 @@ use std::alloc::Global;
 pub const BEFORE: u8 = 7;
 
 // `KIND HEX CODES BYTES HEX ..`: a ground model, how long the two tables are, and wish books to be laid on it.
-pub fn answer(heap: Global, words: &[&str]) -> Result<String, Failure> {
-    let [kind, hex, codes, bytes, wishes @ ..] = words else {
+pub fn answer(heap: Global, words: &str) -> Result<String, Failure> {
+    let words = words_of(heap, words)?;
+    let [kind, hex, codes, bytes, wishes @ ..] = words.as_slice() else {
         return Err(Failure::Unknown);
     };
     let (codes, bytes) = (places(codes)?, places(bytes)?);

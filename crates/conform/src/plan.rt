@@ -4,6 +4,7 @@ use crate::failure::Failure;
 use crate::lists::Numbers;
 use crate::numbers::{number, places};
 use crate::out::BEFORE;
+use crate::words_of;
 use pile::Pile;
 use promise::{Plan, Tables, plan_pile};
 use slotplan::{STATES, WORDS};
@@ -12,8 +13,9 @@ use weighing::{Mean, Weighing, Worst};
 
 // `KIND HEX HORIZON mean|worst WORTHS CHOICES HEX ..`: a ground model, how many slots are left, how an action's outcomes are joined, how
 // long the two tables are, and wish books to be laid on it.
-pub fn answer(heap: Global, words: &[&str]) -> Result<String, Failure> {
-    let [kind, hex, horizon, weighing, worths, choices, wishes @ ..] = words else {
+pub fn answer(heap: Global, words: &str) -> Result<String, Failure> {
+    let words = words_of(heap, words)?;
+    let [kind, hex, horizon, weighing, worths, choices, wishes @ ..] = words.as_slice() else {
         return Err(Failure::Unknown);
     };
     let horizon = number(horizon)? as usize;

@@ -3,6 +3,7 @@ use crate::built::build;
 use crate::failure::Failure;
 use crate::numbers::number;
 use crate::plan::planned;
+use crate::words_of;
 use model::SiteModel;
 use pile::Pile;
 use promise::Plan;
@@ -83,8 +84,9 @@ impl Call {
 }
 
 // `KIND HEX CALLS HEX ..`: a ground model, calls as `c0,t1` or `-`, and wish books to be laid on it.
-pub fn answer(heap: Global, words: &[&str]) -> Result<String, Failure> {
-    let [kind, hex, calls, wishes @ ..] = words else {
+pub fn answer(heap: Global, words: &str) -> Result<String, Failure> {
+    let words = words_of(heap, words)?;
+    let [kind, hex, calls, wishes @ ..] = words.as_slice() else {
         return Err(Failure::Unknown);
     };
     let calls = calls_of(heap, calls)?;

@@ -22,7 +22,7 @@ has_cases a as' i (suc k, l, at) = inr (k, omega arith, at)
 none_has : (i : ℕ) → Contains [] i → ⊥
 none_has i (k, l, at) = omega arith
 
-length-all_marked : (ms : List Bool) (as' : List ℕ) → length (all_marked ms as') ≡ length ms
+pub length-all_marked : (ms : List Bool) (as' : List ℕ) → length (all_marked ms as') ≡ length ms
 length-all_marked ms [] = refl
 length-all_marked ms (a ∷ as') = length-all_marked (set ms a true) as' ∙ length-set ms a true
 
@@ -105,6 +105,10 @@ module _ (nodes : List Node) where
   unfolding turned
   spread_step k ms = refl
 
+  pub length-spread : (k : ℕ) (ms : List Bool) → length (spread nodes k ms) ≡ length ms
+  length-spread zero ms = refl
+  length-spread (suc k) ms = ap length (spread_step k ms) ∙ length-spread k (turned k ms) ∙ length-turned k ms
+
   spread_stays : (k : ℕ) (ms : List Bool) (i : ℕ) → get_or ms i false ≡ true → get_or (spread nodes k ms) i false ≡ true
   spread_stays zero ms i h = h
   spread_stays (suc k) ms i h =
@@ -179,6 +183,9 @@ module _ (nodes : List Node) where
               (rests_marked h i rests in') had (omega (arith, length-first))
           | inr past ↦ absurd (no_operands i a past had)
         ]
+
+    pub length-resting : length (resting nodes roots) ≡ length nodes
+    length-resting = length-spread (length nodes) (all_marked (replicate (length nodes) false) roots) ∙ length-first
 
     pub exact : earlier nodes ≡ true → Exact nodes roots
     exact h = record {

@@ -8,7 +8,7 @@ use Rattle.formula.specs.Items.{looks_back, back_below, items_at, items_below, k
 use Rattle.formula.specs.Resting.{resting, Rested}
 use Rattle.formula.proofs.Marks.{unmarked}
 
-padded_at : (ms : List Bool) (k i : ℕ) → get_or (ms ++ replicate k false) i false ≡ get_or ms i false
+pub padded_at : (ms : List Bool) (k i : ℕ) → get_or (ms ++ replicate k false) i false ≡ get_or ms i false
 padded_at ms k i =
     elim (cases_lt i (length ms)) [
       | inl l ↦ get_or_append_left ms (replicate k false) false i l
@@ -19,7 +19,7 @@ padded_at ms k i =
     ]
 
 -- the marks of the answer are those of the nodes,
-rested_at : (nodes : List Node) (roots : List ℕ) (ms : List Bool) → Rested nodes roots (Some ms) → (i : ℕ) → get_or ms i false ≡ get_or (resting nodes roots) i false
+pub rested_at : (nodes : List Node) (roots : List ℕ) (ms : List Bool) → Rested nodes roots (Some ms) → (i : ℕ) → get_or ms i false ≡ get_or (resting nodes roots) i false
 rested_at nodes roots ms (few, e) i =
     ap (λ m. get_or m i false) e ∙ padded_at (resting nodes roots) (128 - length nodes) i
 
@@ -39,7 +39,7 @@ module _ (nodes : List Node) (used used' : List Bool) (same : (i : ℕ) → get_
       ap (λ l. l ++ items_at nodes used k) (below_same k) ∙ ap (λ l. items_below nodes used' k ++ l) (at_same k)
 
   -- what is kept depends on the marks alone
-  kept_same : kept_items nodes used ≡ kept_items nodes used'
+  pub kept_same : kept_items nodes used ≡ kept_items nodes used'
   kept_same = below_same (length nodes)
 
 -- and so are the items that they keep

@@ -1,17 +1,17 @@
 -- Merging, one word more and all words.
-use Rattle.std.proofs.Common.{◌≡◌, ℕ, ◌+◌, ◌<◌, ◌≤◌, List, [], ◌∷◌, ◌++◌, length, get_or, take, sym, refl, ap, ◌∙◌, arith}
-use Rattle.std.proofs.lemmas.List.{take_more, take_all, length-take, length_push}
+use Rattle.std.proofs.Common.{◌≡◌, ℕ, ◌+◌, ◌<◌, ◌≤◌, List, [], ◌∷◌, ◌++◌, length, get_or, take, drop, sym, refl, ap, ◌∙◌, arith}
+use Rattle.std.proofs.lemmas.List.{take-append-drop, take_more, take_all, take-take, length-take, length_push}
 use Rattle.register.specs.Keys.{place_of, enter}
-use Rattle.register.proofs.Keys.{place_of_le, enter-length}
+use Rattle.register.proofs.Keys.{place_of_le, enter-length, enter-take}
 use Rattle.formula.specs.declared.Node.{Node}
 use Rattle.formula.specs.Merging.{same_node, renumbered, SoFar, merge_one, merge_from, merge_all, nodes_of, numbers_of}
 
-merge_from-append : (m : SoFar) (ws vs : List Node) → merge_from m (ws ++ vs) ≡ merge_from (merge_from m ws) vs
+pub merge_from-append : (m : SoFar) (ws vs : List Node) → merge_from m (ws ++ vs) ≡ merge_from (merge_from m ws) vs
 merge_from-append m [] vs = refl
 merge_from-append m (w ∷ ws) vs = merge_from-append (merge_one m w) ws vs
 
 -- one word more
-merge_all_more : (ws : List Node) (i : ℕ) (d : Node) → i < length ws → merge_all (take (i + 1) ws) ≡ merge_one (merge_all (take i ws)) (get_or ws i d)
+pub merge_all_more : (ws : List Node) (i : ℕ) (d : Node) → i < length ws → merge_all (take (i + 1) ws) ≡ merge_one (merge_all (take i ws)) (get_or ws i d)
 merge_all_more ws i d l =
     ap merge_all (take_more ws i d l) ∙ merge_from-append (record { nodes = []; numbers = [] }) (take i ws) (get_or ws i d ∷ [])
 
@@ -23,8 +23,31 @@ held-length m (w ∷ ws) = (
   omega (arith, enter-length same_node (renumbered m.numbers w) m.nodes, held-length (merge_one m w) ws),
 )
 
-nodes_of-length : (ws : List Node) → length (nodes_of ws) ≤ length ws
+pub nodes_of-length : (ws : List Node) → length (nodes_of ws) ≤ length ws
 nodes_of-length ws = omega (arith, (held-length (record { nodes = []; numbers = [] }) ws).1)
+
+-- the nodes that were there keep their places
+nodes-take : (m : SoFar) (ws : List Node) → take (length m.nodes) (merge_from m ws).nodes ≡ m.nodes
+nodes-take m [] = take_all (length m.nodes) m.nodes (omega arith)
+nodes-take m (w ∷ ws) =
+    let n = renumbered m.numbers w in
+    let more = enter-length same_node n m.nodes in
+    sym (take-take (length m.nodes) (length (enter same_node n m.nodes)) (merge_from (merge_one m w) ws).nodes more.0)
+    ∙ ap (take (length m.nodes)) (nodes-take (merge_one m w) ws)
+    ∙ enter-take same_node n m.nodes
+
+split : (ws : List Node) (i : ℕ) → merge_from (merge_all (take i ws)) (drop i ws) ≡ merge_all ws
+split ws i =
+    sym (merge_from-append (record { nodes = []; numbers = [] }) (take i ws) (drop i ws)) ∙ ap merge_all (take-append-drop i ws)
+
+-- the nodes of the first words are the first nodes of all
+pub nodes_of_front : (ws : List Node) (i : ℕ) → take (length (nodes_of (take i ws))) (nodes_of ws) ≡ nodes_of (take i ws)
+nodes_of_front ws i =
+    ap (λ (m : SoFar). take (length (nodes_of (take i ws))) m.nodes) (sym (split ws i)) ∙ nodes-take (merge_all (take i ws)) (drop i ws)
+
+pub nodes_of_fewer : (ws : List Node) (i : ℕ) → length (nodes_of (take i ws)) ≤ length (nodes_of ws)
+nodes_of_fewer ws i =
+    omega (arith, (held-length (merge_all (take i ws)) (drop i ws)).0, ap (λ (m : SoFar). length m.nodes) (split ws i))
 
 -- each word has its number
 numbers-length : (m : SoFar) (ws : List Node) → length (merge_from m ws).numbers ≡ length m.numbers + length ws

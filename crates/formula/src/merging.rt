@@ -1,11 +1,14 @@
 ghost use Rattle.formula.specs.Formulas.{earlier};
 ghost use Rattle.formula.specs.Merging.{renumbered, KeepsFormulas, Merges};
-ghost use Rattle.std.specs.Prelude.{◌≡◌, IsTrue};
+ghost use Rattle.std.specs.Prelude.{◌≡◌, ◌≤◌, IsTrue, length};
 
 use super::table::at;
 use super::{NODES, Node};
 use bounded::Bounded;
-use register::Register;
+use register::{Few, Register};
+
+// Up to how many words are merged without an index: a look at each node is then as quick as the 24 KB that an index wipes.
+const FEW: usize = 32;
 
 /// The different nodes of some words, in order of first appearance, and the number of each word's node, counted from 0.
 #[derive(Clone, Copy)]
@@ -42,6 +45,17 @@ pub fn merge(words: &[Node]) -> Option<Merged>
     if words.len() > NODES {
         return None;
     }
+    if words.len() <= FEW {
+        return merge_few(words);
+    }
+    merge_many(words)
+}
+
+// Merges more words, by a register with an index. A function of its own: what it keeps is wiped where it begins.
+fn merge_many(words: &[Node]) -> Option<Merged>
+    requires { length words.now ≤ 128 }
+    ensures { Merges words.now result }
+{
     let mut table = [Node::default(); NODES];
     let mut register = Register::new(&mut table);
     let mut numbers = Bounded::new();
@@ -53,6 +67,26 @@ pub fn merge(words: &[Node]) -> Option<Merged>
     }
     Some(Merged {
         nodes: Bounded::from_slice(register.as_slice()),
+        numbers,
+    })
+}
+
+// Merges few words: a register with no index writes nothing but its table.
+fn merge_few(words: &[Node]) -> Option<Merged>
+    requires { length words.now ≤ 32 }
+    ensures { Merges words.now result }
+{
+    let mut table = [Node::default(); FEW];
+    let mut few = Few::new(&mut table);
+    let mut numbers = Bounded::new();
+    for word in words {
+        let node = renumber(&numbers, *word);
+        let place = few.enter(node)?;
+        // There is room: there are no more numbers than words.
+        let _ = numbers.push(place as u8);
+    }
+    Some(Merged {
+        nodes: Bounded::from_slice(few.as_slice()),
         numbers,
     })
 }

@@ -36,7 +36,20 @@ impl<'a, M: SiteModel> Fitted<'a, M> {
         ensures refusal { result_err result ≡
             refusal_of (sizes_of (M.SiteModel.meaning below.now)) (contents book.now) }
     {
-        let sizes = below.sizes();
+        Fitted::on(below, book, below.sizes())
+    }
+
+    // The same, where the sizes of the model below are known.
+    pub(crate) fn on(
+        below: &'a M,
+        book: &'a WishBook,
+        sizes: Sizes,
+    ) -> Result<Fitted<'a, M>, Refusal>
+        requires { sizes ≡ sizes_of (M.SiteModel.meaning below.now) }
+        ensures parts { IfOk result (λ f. (f.below.now ≡ below.now) × (f.book.now ≡ book.now)) }
+        ensures refusal { result_err result ≡
+            refusal_of (sizes_of (M.SiteModel.meaning below.now)) (contents book.now) }
+    {
         fit(sizes, book)?;
         Ok(Fitted { below, book, sizes })
     }

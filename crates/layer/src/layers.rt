@@ -82,7 +82,7 @@ impl<M: SiteModel> Layer<M> {
     }
 }
 
-// Every question goes to the layer where the book is laid, and else to the model below.
+// A question goes to the layer where the book is laid, and else to the model below.
 macro_rules! answer {
     ($layer:ident.$question:ident($($of:expr),*)) => {
         match $layer.fitted() {
@@ -127,7 +127,16 @@ impl<M: SiteModel> SiteModel for Layer<M> {
         answer!(self.outcomes(s, a))
     }
 
+    // The model below is asked once. Were it asked again where the book is refused, refused books on each
+    // other would double the questions at each.
     fn sizes(&self) -> Sizes {
-        answer!(self.sizes())
+        let below = self.below.sizes();
+        let Some(book) = &self.book else {
+            return below;
+        };
+        match Fitted::on(&self.below, book, below) {
+            Ok(fitted) => fitted.sizes(),
+            Err(_) => below,
+        }
     }
 }

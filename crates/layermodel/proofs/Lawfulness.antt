@@ -198,6 +198,20 @@ pub layer_lawful : (m : Model) (o : Option WishBook) → Lawful m → Lawful (ov
 layer_lawful m None law = law
 layer_lawful m (Some w) law = over_lawful m (Some (contents w)) law (kept w).few
 
--- the wish bits above a mask have room, where the book fits
-pub mask_room : (m : Model) (b : Book) → Lawful m → fits m b ≡ true → (s : ℕ) (vs : List Bool) → m.mask s + 2 ^ m.labels * bits_of_wishes b.wishes vs < 2 ^ 24
-mask_room m b law fit s vs = lt_of_lt_of_le (mask_grows m.labels (length b.wishes) (m.mask s) (bits_of_wishes b.wishes vs) (law.shows.labelled s) (bits_below (wish_held vs) b.wishes)) (pow_mono (room m b fit).labels)
+-- what a lawful model has room for, where the book fits
+module _ (m : Model) (b : Book) (law : Lawful m) (fit : fits m b ≡ true) where
+  pub state_room : (s : ℕ) → m.state s ≡ true → s < 2 ^ 44
+  state_room s e = omega (arith, law.states.within s e, (room m b fit).span)
+
+  pub target_room : (s a j : ℕ) (d : Outcome) → j < length (m.outcomes s a) → (get_or (m.outcomes s a) j d).target < 2 ^ 44
+  target_room s a j d h = state_room (get_or (m.outcomes s a) j d).target (law.moves.targets s a j d h)
+
+  pub label_room : m.labels ≤ 24
+  label_room = law.shows.narrow
+
+  -- the wish bits above a mask
+  pub mask_room : (s : ℕ) (vs : List Bool) → m.mask s + 2 ^ m.labels * bits_of_wishes b.wishes vs < 2 ^ 24
+  mask_room s vs = lt_of_lt_of_le (mask_grows m.labels (length b.wishes) (m.mask s) (bits_of_wishes b.wishes vs) (law.shows.labelled s) (bits_below (wish_held vs) b.wishes)) (pow_mono (room m b fit).labels)
+
+  pub reward_room : (s : ℕ) → unsigned_abs (m.reward s) ≤ 2000
+  reward_room s = omega (arith, law.shows.bounded s, law.shows.modest)

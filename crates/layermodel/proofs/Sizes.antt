@@ -1,9 +1,10 @@
 -- How large the numbers of a layer grow: memories and wish bits by their powers of two, rewards by the amounts.
-use Rattle.std.specs.Prelude.{ℕ, suc, ◌+◌, ◌*◌, ◌^◌, ◌<◌, ◌≤◌, Bool, true, false, cond, List, [], ◌∷◌, length, ℤ, ◌+ℤ◌, unsigned_abs}
+use Rattle.std.specs.Prelude.{ℕ, suc, ◌+◌, ◌*◌, ◌^◌, ◌<◌, ◌≤◌, Bool, true, false, cond, List, [], ◌∷◌, length, take, ℤ, ◌+ℤ◌, unsigned_abs}
 use Rattle.std.proofs.Common.{pow-suc, lt_of_lt_of_le, arith, pow_mono}
 use borrow.Author.Differences.{abs_is}
 use Rattle.std.proofs.lemmas.Nat.{pow-add, mul-add-lt}
 use Rattle.std.proofs.lemmas.Int.{ints}
+use Rattle.std.proofs.lemmas.List.{length-take}
 use Rattle.std.proofs.lemmas.List.Sums.{sum_by-cons}
 use Rattle.wishlayout.specs.declared.Wish.{Wish}
 use Rattle.wishlayout.specs.Wishes.{amount}
@@ -39,3 +40,7 @@ earned_within sum [] vs = omega arith
 earned_within sum (w ∷ ws) vs =
     let step = abs_step (wish_held vs w) sum (amount w) in
     omega (arith, earned_within (cond (wish_held vs w) (sum +ℤ amount w) sum) ws vs, sum_by-cons (λ (x : Wish). unsigned_abs (amount x)) w ws)
+
+-- the front of a list is no longer than its number
+pub take_few : {X : Type 0} (n : ℕ) (xs : List X) → n ≤ 16 → length (take n xs) ≤ 16
+take_few n xs few = omega (arith, length-take n xs)

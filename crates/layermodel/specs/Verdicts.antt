@@ -27,8 +27,10 @@ same_item _ _ = false
 abbrev pub recalled : List Item → ℕ → Item → Bool
 recalled items memory x = option_map_or (labelled memory) (position (same_item x) items) false
 
+-- what the tables of node numbers tell of an item; false past their ends
 abbrev pub recalled_by : Recalled → Item → Bool
-recalled_by r = recalled r.items.now r.memory
+recalled_by r (Held i) = slice_index_or r.held i false
+recalled_by r (Failed i) = slice_index_or r.failed i false
 
 -- the verdict on node i, from the items that r recalls and the verdicts on the nodes before it
 abbrev pub verdict : ℕ → (Item → Bool) → ℕ → List Bool → Node → Bool

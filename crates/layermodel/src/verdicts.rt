@@ -19,7 +19,7 @@ pub fn at(table: &[bool], node: u8) -> bool
 }
 
 // The truth of the next node, after the nodes before it.
-fn verdict(node: Node, mask: u32, recalled: &Recalled<'_>, before: &[bool]) -> bool
+fn verdict(node: Node, mask: u32, recalled: &Recalled, before: &[bool]) -> bool
     requires { length before.now < 128 }
     ensures { result ≡
         verdict_of mask (recalled_by recalled.now) (length before.now) before.now node }
@@ -39,7 +39,7 @@ fn verdict(node: Node, mask: u32, recalled: &Recalled<'_>, before: &[bool]) -> b
 }
 
 // The truth of each of at most 128 nodes, in rising order.
-fn truths(nodes: &[Node], mask: u32, recalled: &Recalled<'_>) -> [bool; 128]
+fn truths(nodes: &[Node], mask: u32, recalled: &Recalled) -> [bool; 128]
     requires { length nodes.now ≤ 128 }
     ensures { take (length nodes.now) result ≡ verdicts mask (recalled_by recalled.now) nodes.now }
 {
@@ -55,6 +55,5 @@ pub fn judge(book: &WishBook, mask: u32, memory: u64) -> [bool; 128]
     ensures { take (length (contents book.now).nodes) result ≡
         verdicts_in (contents book.now) mask memory }
 {
-    let items = book.items();
-    truths(book.nodes(), mask, &Recalled { items, memory })
+    truths(book.nodes(), mask, &Recalled::of(book, memory))
 }

@@ -3,4 +3,6 @@
 #![tactic(auto)]
 
 #[cfg(test)]
+mod masks;
+#[cfg(test)]
 mod readings;

@@ -25,9 +25,9 @@ static ALWAYS: [u32; 6] = [
     0x10000000, 0x70000000, 0x50000001, 0xA0010001, 0xA0010102, 0xF0000005,
 ];
 // "previous p0", worth 1: memory worked out from the state arrived at would tell of the present position.
-static PREVIOUS: [u32; 4] = [0x10000000, 0x50000000, 0xA0010001, 0xF0000003];
+pub static PREVIOUS: [u32; 4] = [0x10000000, 0x50000000, 0xA0010001, 0xF0000003];
 // "p0 since p1", worth 1: p0 is not asked at the position at which p1 holds.
-static SINCE: [u32; 5] = [0x10000000, 0x10000001, 0x60000100, 0xA0010002, 0xF0000004];
+pub static SINCE: [u32; 5] = [0x10000000, 0x10000001, 0x60000100, 0xA0010002, 0xF0000004];
 
 // What there is at a position of a record.
 #[derive(Clone, Copy)]
@@ -49,7 +49,7 @@ fn site(heap: Global) -> Result<SiteBook, Unread> {
     read_site(heap, bytes_of(heap, &SITE)?.as_slice())
 }
 
-fn wish(heap: Global, words: &[u32]) -> Result<WishBook, Unread> {
+pub fn wish(heap: Global, words: &[u32]) -> Result<WishBook, Unread> {
     Ok(read_wish(bytes_of(heap, words)?.as_slice())?)
 }
 

@@ -1,5 +1,5 @@
 -- Words are laid one after another: one word more, and several.
-use Rattle.std.proofs.Common.{◌≡◌, ℕ, ◌+◌, ◌-◌, ◌*◌, ◌<◌, ◌≤◌, List, [], ◌∷◌, ◌++◌, length, take, drop, Some, None, replicate, sym, refl, ap, ◌∙◌, subst, append_assoc, arith}
+use Rattle.std.proofs.Common.{◌≡◌, ℕ, ◌+◌, ◌-◌, ◌*◌, ◌<◌, ◌≤◌, List, [], ◌∷◌, ◌++◌, length, take, drop, Some, None, replicate, sym, refl, ap, ◌∙◌, subst, append_assoc, append-nil, arith}
 use Rattle.std.proofs.lemmas.List.{length_push, length-append, length-replicate, drop-replicate, take_at, drop_at}
 use borrow.Rule.Slice.PartMut.{put_mid}
 use Rattle.words.specs.Words.{bytes_of}
@@ -43,6 +43,16 @@ laid_short vs w n bs short (count, (fit, is)) = omega (arith, length_push vs w)
 -- and after that
 pub laid_full : (vs : List ℕ) (w : ℕ) (bs : List ℕ) → LaidIn vs None bs → LaidIn (vs ++ (w ∷ [])) None bs
 laid_full vs w bs over = omega (arith, length_push vs w)
+
+-- a wiped table has no word
+pub laid_none : (bs : List ℕ) (n : ℕ) → bs ≡ replicate n 0 → LaidIn [] (Some 0) bs
+laid_none bs n e =
+    let same : n ≡ length bs - 0 = omega (arith, ap length e, length-replicate {A = ℕ} n 0) in
+    (refl, (omega arith, e ∙ ap (λ j. replicate j 0) same))
+
+-- nothing is added
+pub adds_none : (p : Pen) → Adds [] p p
+adds_none p = record { laid = λ vs h. subst (λ l. HasWritten l p) (sym (append-nil vs)) h; room = refl; lent = refl }
 
 -- one thing after another
 pub adds_both : (xs ys : List ℕ) (p q r : Pen) → Adds xs p q → Adds ys q r → Adds (xs ++ ys) p r

@@ -28,11 +28,12 @@ module _ {k : key.Ghosts ℕ} {e : equality.Ghosts ℕ} where
   length-keys_of c = length-take-le c.len c.keys.now c.fits
 
   pub onto_self : (c : Register ℕ k e) → Onto c c
-  onto_self c = record { more = omega arith; rest = refl; room = refl; lent = refl }
+  onto_self c = record { more = omega arith; few = λ l. l; rest = refl; room = refl; lent = refl }
 
   pub onto_both : (a b c : Register ℕ k e) → Onto a b → Onto b c → Onto a c
   onto_both a b c ab bc = record {
     more = omega (arith, ab.more, bc.more);
+    few = λ l. bc.few (ab.few l);
     rest = bc.rest ∙ drop_further b.keys.now a.keys.now b.len c.len bc.more ab.rest;
     room = bc.room ∙ ab.room;
     lent = bc.lent ∙ ab.lent;
@@ -47,8 +48,8 @@ module _ {k : key.Ghosts ℕ} {e : equality.Ghosts ℕ} where
   cleared_none c e = ap (λ n. take n c.keys.now) e
 
   -- more codes, after those that were added
-  pub added_on : (a b c : Register ℕ k e) (ks js : List ℕ) → keys_of b ≡ enter_all eqb (keys_of a) ks → (a.len ≤ 4096 → b.len ≤ 4096) → Added js b c (Ok tt) → Added (ks ++ js) a c (Ok tt)
-  added_on a b c ks js held few more = (added_all (keys_of a) (keys_of b) (keys_of c) ks js held more.0, λ l. more.1 (few l))
+  pub added_on : (a b c : Register ℕ k e) (ks js : List ℕ) → keys_of b ≡ enter_all eqb (keys_of a) ks → Added js b c (Ok tt) → Added (ks ++ js) a c (Ok tt)
+  added_on a b c ks js held more = added_all (keys_of a) (keys_of b) (keys_of c) ks js held more
 
   -- or some that find no room, whatever was to follow
   pub added_over : (a b c : Register ℕ k e) (ks js rest : List ℕ) (r : Refusal) → keys_of b ≡ enter_all eqb (keys_of a) ks → length b.keys.now ≡ length a.keys.now → Added js b c (Err r) → Added (ks ++ (js ++ rest)) a c (Err r)

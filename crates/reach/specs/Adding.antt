@@ -15,15 +15,16 @@ room_in n = min n 4096
 module _ {k : key.Ghosts ℕ} {e : equality.Ghosts ℕ} where
   -- all of the codes are listed, or there are more than the room
   abbrev pub Added : List ℕ → Register ℕ k e → Register ℕ k e → Result ⊤ Refusal → Type 0
-  Added codes before after (Ok _) =
-      (keys_of after ≡ enter_all nat_eq (keys_of before) codes) × (before.len ≤ 4096 → after.len ≤ 4096)
+  Added codes before after (Ok _) = keys_of after ≡ enter_all nat_eq (keys_of before) codes
   Added codes before after (Err r) =
       (r ≡ TooManyStates)
       × (room_in (length before.keys.now) < length (enter_all nat_eq (keys_of before) codes))
 
-  -- codes are listed in the same table, which is as it was after them
+  -- codes are listed in the same table, which is as it was after them, and no more than 4,096 where
+  -- no more were
   pub record Onto (before after : Register ℕ k e) : Type 0 where
     pub more : before.len ≤ after.len
+    pub few : before.len ≤ 4096 → after.len ≤ 4096
     pub rest : drop after.len after.keys.now ≡ drop after.len before.keys.now
     pub room : length after.keys.now ≡ length before.keys.now
     pub lent : after.keys.ghost_name ≡ before.keys.ghost_name

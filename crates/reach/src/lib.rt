@@ -8,7 +8,7 @@ ghost use Rattle.reach.specs.Adding.{AddsCodes, room_in};
 ghost use Rattle.reach.specs.Reached.{Searched};
 ghost use Rattle.reach.specs.Search.{leads_to};
 ghost use Rattle.register.specs.Register.{keys_of};
-ghost use Rattle.std.specs.Prelude.{◌≡◌, [], ◌∷◌, length, drop};
+ghost use Rattle.std.specs.Prelude.{◌≡◌, ◌≤◌, [], ◌∷◌, length, drop};
 
 use model::{Outcomes, SiteModel};
 use refusal::Refusal;
@@ -21,11 +21,12 @@ const MOST: usize = 4096;
 /// "Writing out". What the register held before is dropped.
 ///
 /// # Errors
-/// `TooManyStates` where there are more than the register's table or a book (4,096) holds. Nothing is
-/// promised of what the register then lists.
+/// `TooManyStates` where there are more than the register's table or a book (4,096) holds. The
+/// register then lists some codes, at most 4,096, and the table is as it was after them.
 pub fn search<M: SiteModel>(m: &M, codes: &mut Register<u64>) -> Result<(), Refusal>
     ensures answer { Searched (M.SiteModel.meaning m.now) (room_in (length codes.old.keys.now))
         (keys_of codes.new) result }
+    ensures few { codes.new.len ≤ 4096 }
     ensures rest { drop codes.new.len codes.new.keys.now ≡ drop codes.new.len codes.old.keys.now }
     ensures room { length codes.new.keys.now ≡ length codes.old.keys.now }
     ensures lent { codes.new.keys.ghost_name ≡ codes.old.keys.ghost_name }
@@ -61,12 +62,18 @@ fn add_outcomes(outcomes: &Outcomes, codes: &mut Register<u64>) -> Result<(), Re
     Ok(())
 }
 
-// Adds one state, unless it is listed.
+// Adds one state, unless it is listed. Where a book's worth are listed it only looks for the state:
+// what lies in the table past them is the caller's.
 fn list(codes: &mut Register<u64>, code: u64) -> Result<(), Refusal>
     ensures { AddsCodes (code ∷ []) codes.old codes.new result }
 {
-    match codes.enter(code) {
-        Some(place) if place < MOST => Ok(()),
-        _ => Err(Refusal::TooManyStates),
+    let place = if codes.len() < MOST {
+        codes.enter(code)
+    } else {
+        codes.place(&code)
+    };
+    match place {
+        Some(_) => Ok(()),
+        None => Err(Refusal::TooManyStates),
     }
 }

@@ -3,8 +3,8 @@ use Rattle.std.proofs.Common.{◌≡◌, ℕ, ◌<◌, Bool, true, eqb, List, []
 use Rattle.std.specs.Cmp.{IsEquivalence, both_ways as one_answer}
 use Rattle.std.specs.List.{Contains}
 use Rattle.std.proofs.lemmas.Bool.{both_ways, eqb-true, eq-eqb}
-use Rattle.register.specs.Keys.{Equal, Distinct, KeptBy, Kept, place_of, enter_all}
-use Rattle.register.proofs.Keys.{place_of_holds, place_of_fails, place_of_equal}
+use Rattle.register.specs.Keys.{Equal, DistinctBy, Distinct, KeptBy, Kept, place_of, enter, enter_all}
+use Rattle.register.proofs.Keys.{place_of_holds, place_of_fails, place_of_equal, enter_holds, enter_all_distinct as enter_all_apart}
 use Rattle.register.proofs.Order.{enter_all_kept}
 
 -- a test that holds of each key and itself, and of no two others
@@ -34,6 +34,17 @@ module _ {K : Type 0} (eq : K → K → Bool) (is : IsIdentity eq) where
   -- and nowhere before it
   pub place_of_before : (k : K) (ks : List K) (i : ℕ) (d : K) → i < place_of eq k ks → get_or ks i d ≡ k → ⊥
   place_of_before k ks i d l e = both_ways (eq k (get_or ks i d)) (place_of_fails eq k ks i d l) (from_identical k (get_or ks i d) (sym e))
+
+  -- once it is entered, the key stands at its place
+  pub enter_at : (k : K) (ks : List K) (d : K) → get_or (enter eq k ks) (place_of eq k ks) d ≡ k
+  enter_at k ks d = sym (is.only k (get_or (enter eq k ks) (place_of eq k ks) d) (enter_holds eq identity_equivalence k ks d))
+
+  -- what is entered into a list with no key twice leaves no key twice
+  pub enter_all_distinct : (held ks : List K) → Distinct held → Distinct (enter_all eq held ks)
+  enter_all_distinct held ks apart i j d l m e =
+      let kept : DistinctBy (Equal eq) (enter_all eq held ks) =
+      enter_all_apart eq identity_equivalence held ks (λ i j d l m same. apart i j d l m (is.only (get_or held i d) (get_or held j d) same)) in
+      kept i j d l m (from_identical (get_or (enter_all eq held ks) i d) (get_or (enter_all eq held ks) j d) e)
 
   -- a list with no key twice gives each key its own place
   pub place_of-get_or : (ks : List K) (i : ℕ) (d : K) → Distinct ks → i < length ks → place_of eq (get_or ks i d) ks ≡ i

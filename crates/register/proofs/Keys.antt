@@ -42,6 +42,15 @@ place_of_here eq k (x ∷ xs) (suc i) d =
     (λ _ l. absurd (omega arith))
     (λ _ l m e. ap (λ n. suc n) (place_of_here eq k xs i d (omega arith) (omega arith) e))
 
+-- or goes past
+pub place_of_past : {K : Type 0} (eq : K → K → Bool) (k : K) (ks : List K) (i : ℕ) (d : K) → i ≤ place_of eq k ks → i < length ks → eq k (get_or ks i d) ≡ false → i + 1 ≤ place_of eq k ks
+place_of_past eq k [] i d = λ l m. absurd (omega arith)
+place_of_past eq k (x ∷ xs) zero d = λ l m e. omega (arith, cond-false (eq k x) 0 (suc (place_of eq k xs)) e)
+place_of_past eq k (x ∷ xs) (suc i) d =
+    cond_both (eq k x) 0 (suc (place_of eq k xs)) (λ n. suc i ≤ n → suc i < suc (length xs) → eq k (get_or xs i d) ≡ false → suc i + 1 ≤ n)
+    (λ _ l. absurd (omega arith))
+    (λ _ l m e. omega (arith, place_of_past eq k xs i d (omega arith) (omega arith) e))
+
 -- a key that is there changes nothing
 pub enter_there : {K : Type 0} (eq : K → K → Bool) (k : K) (ks : List K) → place_of eq k ks < length ks → enter eq k ks ≡ ks
 enter_there eq k ks l = cond-true _ ks (ks ++ (k ∷ [])) (lt-ltb (place_of eq k ks) (length ks) l)
@@ -57,6 +66,16 @@ enter_both eq k ks P there new =
     (λ l. subst P (sym (enter_there eq k ks l)) (there l))
     (λ l. subst P (sym (enter_new eq k ks l)) (new (omega (arith, place_of_le eq k ks))))
     (cases_lt (place_of eq k ks) (length ks))
+
+pub enter_place : {K : Type 0} (eq : K → K → Bool) (k : K) (ks : List K) → place_of eq k ks < length (enter eq k ks)
+enter_place eq k ks =
+    enter_both eq k ks (λ r. place_of eq k ks < length r) (λ l. l) (λ e. omega (arith, e, length_push ks k))
+
+-- what stands at the place of a key, once it is entered, is equal to it
+pub enter_holds : {K : Type 0} (eq : K → K → Bool) → IsEquivalence eq → (k : K) (ks : List K) (d : K) → eq k (get_or (enter eq k ks) (place_of eq k ks) d) ≡ true
+enter_holds eq E k ks d =
+    enter_both eq k ks (λ r. eq k (get_or r (place_of eq k ks) d) ≡ true) (place_of_holds eq k ks d)
+    (λ e. subst (λ x. eq k x ≡ true) (sym (get_or_push ks k d (place_of eq k ks) (sym e))) (E.refl k))
 
 pub enter-length : {K : Type 0} (eq : K → K → Bool) (k : K) (ks : List K) → (length ks ≤ length (enter eq k ks)) × (length (enter eq k ks) ≤ length ks + 1)
 enter-length eq k ks =
@@ -122,6 +141,11 @@ enter_all-take eq held (k ∷ ks) =
     ∙ ap (take (length held)) (enter_all-take eq (enter eq k held) ks)
     ∙ enter-take eq k held
 
+pub enter_all_distinct : {K : Type 0} (eq : K → K → Bool) → IsEquivalence eq → (held ks : List K) → DistinctBy (Equal eq) held → DistinctBy (Equal eq) (enter_all eq held ks)
+enter_all_distinct eq E held [] apart = apart
+enter_all_distinct eq E held (k ∷ ks) apart =
+    enter_all_distinct eq E (enter eq k held) ks (enter_distinct eq E k held apart)
+
 -- where no two keys are equal, the place of a key is wherever one stands that is equal to it
 pub place_of_equal : {K : Type 0} (eq : K → K → Bool) → IsEquivalence eq → (k : K) (ks : List K) (i : ℕ) (d : K) → DistinctBy (Equal eq) ks → i < length ks → eq k (get_or ks i d) ≡ true → place_of eq k ks ≡ i
 place_of_equal eq E k ks i d apart l same =
@@ -150,3 +174,18 @@ place_of_append_new eq k (x ∷ xs) js =
       | true ↦ λ l. absurd (omega arith)
       | false ↦ λ l. omega (arith, place_of_append_new eq k xs js (omega arith))
     ]
+
+-- an entry leaves the places of the keys that were there,
+pub place_of_enter : {K : Type 0} (eq : K → K → Bool) (j k : K) (ks : List K) → place_of eq j ks < length ks → place_of eq j (enter eq k ks) ≡ place_of eq j ks
+place_of_enter eq j k ks l =
+    enter_both eq k ks (λ r. place_of eq j r ≡ place_of eq j ks) (λ _. refl) (λ _. place_of_append eq j ks (k ∷ []) l)
+
+-- and the key has the place that it was given
+pub place_of_entered : {K : Type 0} (eq : K → K → Bool) → IsEquivalence eq → (k : K) (ks : List K) → place_of eq k (enter eq k ks) ≡ place_of eq k ks
+place_of_entered eq E k ks =
+    enter_both eq k ks (λ r. place_of eq k r ≡ place_of eq k ks) (λ _. refl)
+    (λ e. omega (arith, place_of_append_new eq k ks (k ∷ []) (omega arith), cond-true {A = ℕ} (eq k k) 0 1 (E.refl k)))
+
+pub enter-get_or : {K : Type 0} (eq : K → K → Bool) (k : K) (ks : List K) (i : ℕ) (d : K) → i < length ks → get_or (enter eq k ks) i d ≡ get_or ks i d
+enter-get_or eq k ks i d l =
+    enter_both eq k ks (λ r. get_or r i d ≡ get_or ks i d) (λ _. refl) (λ _. get_or_append_left ks (k ∷ []) d i l)

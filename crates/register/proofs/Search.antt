@@ -90,6 +90,11 @@ chained_back eq E number shares xs heads earlier k x len at fits chained s l rea
     (ap (eq k) is ∙ E.symm k x ∙ other)
     (chained.linked (at - 1) (omega (arith, s.within)))
 
+-- what a look through all places says
+pub one_part : {K : Type 0} (eq : K → K → Bool) → IsEquivalence eq → (k : K) (ks : List K) (len : ℕ) → length ks ≡ len → DistinctBy (Equal eq) ks → (r : Option ℕ) → Found eq ks k 0 len r → Placed eq k ks r
+one_part eq E k ks len size apart (Some p) all = placed eq E k ks 0 len p apart (omega arith) all
+one_part eq E k ks len size apart None all = nowhere eq k ks (λ q l. all q (omega arith) (omega arith))
+
 -- what the look through the later places says, where the chained ones hold no key that is equal
 pub both_parts : {K : Type 0} (eq : K → K → Bool) → IsEquivalence eq → (k : K) (ks : List K) (len : ℕ) → length ks ≡ len → DistinctBy (Equal eq) ks → Found eq ks k 0 (min len 4096) None → (r : Option ℕ) → Found eq ks k 4096 len r → Placed eq k ks r
 both_parts eq E k ks len size apart first (Some p) later = placed eq E k ks 4096 len p apart (omega arith) later

@@ -1,3 +1,4 @@
 pub mod Chains
+pub mod Few
 pub mod Keys
 pub mod Register

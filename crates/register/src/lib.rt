@@ -10,11 +10,13 @@ mod chains;
 #[cfg(test)]
 mod coarse;
 mod count;
+mod few;
 mod numbers;
 mod one_bucket;
 
 use chains::{BUCKETS, CHAINED, Chains};
 pub use count::distinct;
+pub use few::Few;
 pub use one_bucket::OneBucket;
 
 /// What a register can keep: `==` says which keys are equal, an equivalence by the law of `Eq`.
@@ -29,7 +31,8 @@ pub trait Key: Copy + Eq {
 }
 
 /// Keys in the order of entry, no two of them equal: the first `len` elements of a table that is lent, so that how many keys there is
-/// room for, is the caller's to say. The first 4,096 keys are found by their buckets, later ones by a look at each.
+/// room for, is the caller's to say. The first 4,096 keys are found by their buckets, later ones by a look at each. Making one wipes the
+/// 24 KB of that index: `Few` is made for less.
 #[derive(Drop)]
 pub struct Register<'a, K: Key> {
     keys: &'a mut [K],

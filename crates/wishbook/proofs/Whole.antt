@@ -1,6 +1,7 @@
 -- From what was gathered to the book: the items, that the book is what its words come to, and what the reader answers.
-use Rattle.std.proofs.Common.{◌≡◌, ℕ, ◌<◌, true, cond, ltb, leb, List, [], ◌∷◌, map, length, get_or, Some, Ok, Err, Option, Result, sym, refl, ap, ◌∙◌, subst, arith, rules}
+use Rattle.std.proofs.Common.{◌≡◌, ℕ, ◌<◌, true, cond, ltb, leb, List, [], ◌∷◌, map, length, get_or, Some, Ok, Err, Option, Result, sym, refl, ap, ◌∙◌, subst, take, arith, rules}
 use Rattle.formula.specs.declared.Node.{Node}
+use Rattle.formula.specs.declared.Item.{Item}
 use Rattle.formula.specs.declared.merging.Merged.{Merged}
 use Rattle.formula.specs.Formulas.{earlier}
 use Rattle.formula.specs.Items.{kept_items}
@@ -15,8 +16,10 @@ use Rattle.wishlayout.specs.declared.Wish.{Wish}
 use Rattle.wishlayout.specs.Layout.{Draft, whole_book}
 use Rattle.wishlayout.specs.Wishes.{Wishes, items_for, good_wish}
 use Rattle.wishlayout.proofs.Way.{validly}
+use Rattle.std.proofs.lemmas.List.{take_all}
 use Rattle.bounded.proofs.Few.{few}
 use Rattle.bounded.specs.Listed.{listed}
+use Rattle.bounded.specs.declared.Bounded.{Bounded}
 use Rattle.refusal.specs.declared.Refusal.{Refusal}
 use Rattle.wishbook.specs.declared.book.WishBook.{WishBook}
 use Rattle.wishbook.specs.declared.gathered.Gathered.{Gathered}
@@ -29,7 +32,7 @@ renamed_roots numbers [] = refl
 renamed_roots numbers (w ∷ ws) = ap (λ l. get_or numbers w.node 0 ∷ l) (renamed_roots numbers ws)
 
 -- the items over the different nodes are those of the words
-items_same : (ns : List Node) (ws : List Wish) → items_over (nodes_of ns) (map (renamed (numbers_of ns)) ws) ≡ items_for ns ws
+pub items_same : (ns : List Node) (ws : List Wish) → items_over (nodes_of ns) (map (renamed (numbers_of ns)) ws) ≡ items_for ns ws
 items_same ns ws = ap (λ roots. kept_items (nodes_of ns) (resting (nodes_of ns) roots)) (renamed_roots (numbers_of ns) ws)
 
 renamed_good : (ns : List Node) (ws : List Wish) → KeepsFormulas ns → all (good_wish (length ns)) ws ≡ true → all (good_wish (length (nodes_of ns))) (map (renamed (numbers_of ns)) ws) ≡ true
@@ -42,7 +45,7 @@ renamed_good ns (w ∷ ws) f each =
     (renamed_good ns ws f parts.1)
 
 -- the book's operands number earlier nodes, and its wishes name nodes
-whole_sound : (ns : List Node) (ws : List Wish) → earlier ns ≡ true → all (good_wish (length ns)) ws ≡ true → sound (nodes_of ns) (map (renamed (numbers_of ns)) ws) ≡ true
+pub whole_sound : (ns : List Node) (ws : List Wish) → earlier ns ≡ true → all (good_wish (length ns)) ws ≡ true → sound (nodes_of ns) (map (renamed (numbers_of ns)) ws) ≡ true
 whole_sound ns ws e each =
     let f = faithful ns e in
     and_from (earlier (nodes_of ns)) (all (good_wish (length (nodes_of ns))) (map (renamed (numbers_of ns)) ws)) f.still_earlier (renamed_good ns ws f each)
@@ -57,6 +60,16 @@ meant_same ns (w ∷ ws) f each =
 -- a book means what its node words say
 pub same_wishes : SameWishes
 same_wishes f e = let v = validly f e in meant_same f.nodes f.wishes (faithful f.nodes v.operands) v.amounts
+
+-- a list of at most 16 wishes is its first 16, and what is read as these is the list
+pub first_sixteen : (b : Bounded Wish 16) → listed b ≡ take 16 (listed b)
+first_sixteen b = sym (take_all 16 (listed b) (few b))
+
+pub read_back : (b : Bounded Wish 16) (ws all : List Wish) → ws ≡ take 16 (listed b) → listed b ≡ all → ws ≡ all
+read_back b ws all first is = first ∙ sym (first_sixteen b) ∙ is
+
+pub over_read : (b : Bounded Wish 16) (nodes : List Node) (ws : List Wish) (items : List Item) → items ≡ items_over nodes (listed b) → ws ≡ take 16 (listed b) → items ≡ items_over nodes ws
+over_read b nodes ws items told first = told ∙ ap (items_over nodes) (first_sixteen b ∙ sym first)
 
 -- the book of what was gathered
 

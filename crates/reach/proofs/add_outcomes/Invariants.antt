@@ -1,5 +1,5 @@
 -- The targets so far are entered, in the same table.
-use Rattle.std.proofs.Common.{◌≡◌, ◌≤◌, eqb, take}
+use Rattle.std.proofs.Common.{◌≡◌, eqb, take}
 use Rattle.model.specs.Histories.{targets_of}
 use Rattle.register.specs.Keys.{enter_all}
 use Rattle.register.specs.Register.{keys_of}
@@ -9,5 +9,4 @@ use Rattle.reach.proofs.add_outcomes.Given as goal
 abbrev pub invariant-loop-way : goal.invariant-loop-way
 invariant-loop-way l =
     (keys_of l.codes ≡ enter_all eqb (keys_of l.initial.codes) (targets_of (take l.way-index l.way-items)))
-    × (l.initial.codes.len ≤ 4096 → l.codes.len ≤ 4096)
     × Onto l.initial.codes l.codes

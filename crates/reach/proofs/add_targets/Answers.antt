@@ -13,11 +13,10 @@ loop-action-preserved g c =
     let inv = c.loop-action.invariant in
     let told = c.in_ok-add_outcomes.ensures in
     let one : suc c.loop-action.action ≡ c.loop-action.action + 1 = omega arith in
-    let on = added_on c.args.codes.now c.loop-action.codes c.add_outcomes.new.codes (targets_below m c.args.state c.loop-action.action) (targets_of (m.outcomes c.args.state c.loop-action.action)) inv.0 inv.1
+    let on = added_on c.args.codes.now c.loop-action.codes c.add_outcomes.new.codes (targets_below m c.args.state c.loop-action.action) (targets_of (m.outcomes c.args.state c.loop-action.action)) inv.0
     (subst (λ os. Added (targets_of os) c.loop-action.codes c.add_outcomes.new.codes (Ok tt)) c.outcomes.ensures.outcomes told.added) in (
-      on.0 ∙ ap (λ n. enter_all eqb (keys_of c.args.codes.now) (targets_below m c.args.state n)) one,
-      on.1,
-      onto_both c.args.codes.now c.loop-action.codes c.add_outcomes.new.codes inv.2 told.onto,
+      on ∙ ap (λ n. enter_all eqb (keys_of c.args.codes.now) (targets_below m c.args.state n)) one,
+      onto_both c.args.codes.now c.loop-action.codes c.add_outcomes.new.codes inv.1 told.onto,
     )
 
 pub returns-in_err-add_outcomes : goal.returns-in_err-add_outcomes
@@ -30,8 +29,8 @@ returns-in_err-add_outcomes g c =
     let over = over_action (keys_of c.args.codes.now) (keys_of c.loop-action.codes) m c.args.state a (room_in (length c.args.codes.now.keys.now))
     (omega (arith, c.actions-action-end.ensures.actions))
     inv.0
-    (subst (λ n. room_in n < length (enter_all eqb (keys_of c.loop-action.codes) (targets_of (m.outcomes c.args.state a)))) inv.2.room told.1) in
+    (subst (λ n. room_in n < length (enter_all eqb (keys_of c.loop-action.codes) (targets_of (m.outcomes c.args.state a)))) inv.1.room told.1) in
     let said : c.from_residual.result ≡ Err r = search rules in record {
       added = subst (Added (leads_to m c.args.state) c.args.codes.now c.add_outcomes.new.codes) (sym said) (told.0, over);
-      onto = onto_both c.args.codes.now c.loop-action.codes c.add_outcomes.new.codes inv.2 c.in_err-add_outcomes.ensures.onto;
+      onto = onto_both c.args.codes.now c.loop-action.codes c.add_outcomes.new.codes inv.1 c.in_err-add_outcomes.ensures.onto;
     }

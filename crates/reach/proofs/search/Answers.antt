@@ -23,9 +23,9 @@ loop-state-init g c =
     let m = g.M.SiteModel.meaning c.args.m.now in
     let told = c.in_ok-list.ensures in
     let empty = cleared_none c.clear.new.self c.clear.ensures.empty in (
-      told.added.0 ∙ ap (enter eqb c.start.result) empty ∙ ap (λ s. enter eqb s []) c.start.ensures.start ∙ sym (listed_start m),
+      told.added ∙ ap (enter eqb c.start.result) empty ∙ ap (λ s. enter eqb s []) c.start.ensures.start ∙ sym (listed_start m),
       omega arith,
-      told.added.1 (omega (arith, c.clear.ensures.empty)),
+      told.onto.few (omega (arith, c.clear.ensures.empty)),
       onto_self c.list.new.codes,
     )
 
@@ -59,8 +59,8 @@ loop-state-preserved g c =
     let told = c.in_ok-add_targets.ensures in
     let at = c.in-Some.ensures in
     let inv = c.loop-state.invariant in
-    let turn = search_turn m c.loop-state.place (keys_of c.loop-state.codes) (keys_of c.add_targets.new.codes) c.in-Some.state inv.0 at.0 (at.1 0) told.added.0 in
-    (turn.0, turn.1, told.added.1 inv.2, onto_both c.list.new.codes c.loop-state.codes c.add_targets.new.codes inv.3 told.onto)
+    let turn = search_turn m c.loop-state.place (keys_of c.loop-state.codes) (keys_of c.add_targets.new.codes) c.in-Some.state inv.0 at.0 (at.1 0) told.added in
+    (turn.0, turn.1, told.onto.few inv.2, onto_both c.list.new.codes c.loop-state.codes c.add_targets.new.codes inv.3 told.onto)
 
 pub returns-clause-answer : goal.returns-clause-answer
 returns-clause-answer g c =

@@ -16,9 +16,9 @@ loop-at-init g c =
 pub loop-at-smaller : goal.loop-at-smaller
 loop-at-smaller g c =
     let s = c.args.self.now in
-    (chained_back g.K.PartialEq.eq g.met.K.Eq.laws g.K.Key.bucket g.met.K.Key.shares_bucket s.keys.now s.chains.heads s.chains.earlier c.args.key.now c.index-keys-place.result s.len c.loop-at.at s.fits s.chained c.loop-at.invariant c.loop-at-test.true c.index-keys-place.is (sym c.eq.ensures ∙ c.if-eq.false)).0
+    (chained_back g.K.PartialEq.eq g.met.K.Eq.laws g.K.Key.bucket g.met.K.Key.shares_bucket s.keys.now s.chains.heads s.chains.earlier c.args.key.now c.index-keys-place.result s.len c.loop-at.at s.fits s.chained c.loop-at.invariant (omega arith) c.index-keys-place.is (sym c.eq.ensures ∙ c.if-eq.false)).0
 
 pub loop-at-preserved : goal.loop-at-preserved
 loop-at-preserved g c =
     let s = c.args.self.now in
-    (chained_back g.K.PartialEq.eq g.met.K.Eq.laws g.K.Key.bucket g.met.K.Key.shares_bucket s.keys.now s.chains.heads s.chains.earlier c.args.key.now c.index-keys-place.result s.len c.loop-at.at s.fits s.chained c.loop-at.invariant c.loop-at-test.true c.index-keys-place.is (sym c.eq.ensures ∙ c.if-eq.false)).1
+    (chained_back g.K.PartialEq.eq g.met.K.Eq.laws g.K.Key.bucket g.met.K.Key.shares_bucket s.keys.now s.chains.heads s.chains.earlier c.args.key.now c.index-keys-place.result s.len c.loop-at.at s.fits s.chained c.loop-at.invariant (omega arith) c.index-keys-place.is (sym c.eq.ensures ∙ c.if-eq.false)).1

@@ -1,4 +1,4 @@
-use Rattle.std.proofs.Common.{◌≡◌, [], ◌∷◌, ◌++◌, ap, length, ◌*◌, sym, ◌∙◌, refl, eqb, rules}
+use Rattle.std.proofs.Common.{◌≡◌, [], ◌∷◌, ◌++◌, ap, length, ◌*◌, sym, ◌∙◌, refl, eqb, rules, arith}
 use Rattle.std.proofs.lemmas.List.{length-map}
 use Rattle.bounded.specs.Listed.{listed}
 use Rattle.sitelayout.specs.declared.Move.{Move}
@@ -30,7 +30,7 @@ returns-then-due-gt0 c = λ d at.
     move_leads Tracks h at.0 c.args.word _ cs mv o.due m d at.1.1.1.0 (search rules)
     (move_on Tracks h at.0 c.args.word _ cs mv o.due m new
     (moved_due Tracks h at.0 cs (mv ++ (m ∷ [])) _ o.due c.if-due-gt0.true
-    (at.0, (cs, (mv ++ (m ∷ []), (refl, record { table = of.table; room = of.room; weighed = weight-push mv m o.total of.weighed; targets = targets-push mv m _ _ of.targets pushed }))))))
+    (at.0, (cs, (mv ++ (m ∷ []), (refl, record { table = of.table; room = of.room; weighed = omega (arith, weight-push mv m o.total of.weighed); targets = targets-push mv m _ _ of.targets pushed }))))))
 
 pub returns-then-total-ne8 : goal.returns-then-total-ne8
 returns-then-total-ne8 c = λ d at.
@@ -43,7 +43,7 @@ returns-then-total-ne8 c = λ d at.
     let new = taken_by m.target mv c.deref.result.now _ (of.targets ∙ sym c.deref.ensures.0) c.contains.ensures.value ∙ c.if-contains.false in
     move_leads Tracks h at.0 c.args.word _ cs mv o.due m d at.1.1.1.0 (search rules)
     (move_on Tracks h at.0 c.args.word _ cs mv o.due m new
-    (moved_wrong Tracks h at.0 cs (mv ++ (m ∷ [])) o.due c.if-due-gt0.false (λ e. c.if-total-ne8.true (sym (weight-push mv m o.total of.weighed) ∙ e))))
+    (moved_wrong Tracks h at.0 cs (mv ++ (m ∷ [])) o.due c.if-due-gt0.false (λ e. c.if-total-ne8.true (omega (arith, weight-push mv m o.total of.weighed, e)))))
 
 pub returns : goal.returns
 returns c = λ d at.
@@ -60,5 +60,5 @@ returns c = λ d at.
     let long : length (mv ++ (m ∷ [])) ≡ c.len.result = sym (length-map (mv ++ (m ∷ [])) (λ (m : Move). m.target)) ∙ ap length targets ∙ sym c.len.ensures.count in
     move_leads Tracks h at.0 c.args.word _ cs mv o.due m d at.1.1.1.0 (search rules)
     (move_on Tracks h at.0 c.args.word _ cs mv o.due m new
-    (moved_right Tracks h at.0 cs (mv ++ (m ∷ [])) _ o.due c.if-due-gt0.false (weight-push mv m o.total of.weighed ∙ c.if-total-ne8.false)
+    (moved_right Tracks h at.0 cs (mv ++ (m ∷ [])) _ o.due c.if-due-gt0.false (omega (arith, weight-push mv m o.total of.weighed, c.if-total-ne8.false))
     (at.0, (cs ++ ((mv ++ (m ∷ [])) ∷ []), (refl, close_by t.counts t.cells t.waits at.0 cs (mv ++ (m ∷ [])) c.len.result of.table of.room (pushed_some mv m) long (eqb t.cells (t.waits * h.actions)) refl)))))

@@ -1,11 +1,12 @@
 use Rattle.std.proofs.Common.{◌≡◌, None, Err, sym, subst, rules}
+use Rattle.std.proofs.Math.Seq.{take-append_seam}
 use Rattle.bounded.specs.Listed.{listed}
 use Rattle.refusal.specs.declared.Refusal.TheVariants.{TooManyItems}
 use Rattle.words.specs.Drafts.{Finished}
 use Rattle.wishlayout.specs.Layout.{whole_book}
 use Rattle.wishbook.specs.Book.{items_over}
 use Rattle.wishbook.specs.Contents.{Remembered}
-use Rattle.wishbook.proofs.Whole.{Means, parts, book_sound, unwished, overfull, made}
+use Rattle.wishbook.proofs.Whole.{Means, parts, first_sixteen, read_back, over_read, book_sound, unwished, overfull, made}
 use Rattle.wishbook.proofs.gathered.steps.GatheredDraft.finish.Goals as goal
 
 pub returns-then-is_empty : goal.returns-then-is_empty
@@ -21,9 +22,13 @@ returns-in_err-items c = λ s f.
 pub invariant_of-result : goal.invariant_of-result
 invariant_of-result c =
     let own = parts c.args.self _ _ _ _ _ c.deref-2.ensures.0 c.merge.ensures.answer c.unwrap-merged.ensures c.deref-3.ensures.0 c.rename_all-wishes.ensures in
-    record { sound = book_sound c.args.self _ _ own.0 own.1; remembers = search rules }
+    let told : listed c.in_ok-items.items ≡ items_over (listed c.unwrap-merged.result.nodes) (listed c.rename_all-wishes.result) = search rules in
+    record {
+      sound = book_sound c.args.self _ _ own.0 (read_back c.rename_all-wishes.result _ _ (search (rules, first_sixteen c.rename_all-wishes.result, take-append_seam)) own.1);
+      remembers = search (rules, over_read c.rename_all-wishes.result (listed c.unwrap-merged.result.nodes), told, first_sixteen c.rename_all-wishes.result, take-append_seam);
+    }
 
 pub returns : goal.returns
 returns c = λ s f.
     let own = parts c.args.self _ _ _ _ _ c.deref-2.ensures.0 c.merge.ensures.answer c.unwrap-merged.ensures c.deref-3.ensures.0 c.rename_all-wishes.ensures in
-    made c.args.self s _ (search rules) f own.0 own.1
+    made c.args.self s _ (search rules) f own.0 (read_back c.rename_all-wishes.result _ _ (search (rules, first_sixteen c.rename_all-wishes.result, take-append_seam)) own.1)

@@ -3,7 +3,7 @@ use Rattle.std.proofs.Common.{◌≡◌, length}
 use Rattle.bounded.specs.Listed.{listed}
 use Rattle.register.specs.Register.{keys_of}
 use Rattle.formula.proofs.Tables.{Reached}
-use Rattle.formula.proofs.merging.merge.Given as goal
+use Rattle.formula.proofs.merging.merge_many.Given as goal
 
 abbrev pub invariant-loop-word : goal.invariant-loop-word
 invariant-loop-word l = record {

@@ -1,0 +1,12 @@
+-- The register holds the nodes of the words so far, and their numbers are listed.
+use Rattle.std.proofs.Common.{◌≡◌, length}
+use Rattle.bounded.specs.Listed.{listed}
+use Rattle.register.specs.Few.{few_of}
+use Rattle.formula.proofs.Tables.{Reached}
+use Rattle.formula.proofs.merging.merge_few.Given as goal
+
+abbrev pub invariant-loop-word : goal.invariant-loop-word
+invariant-loop-word l = record {
+  reached : Reached l.words (few_of l.few) (listed l.numbers) l.word-index;
+  room : length l.few.keys.now ≡ 32;
+}
