@@ -1,7 +1,8 @@
 #!/usr/bin/env bash
 # Lets each allocation fail in turn, first in the tests of crates/memorytests and then in the main job, until a run has none left that
 # could fail. The tests take a whole answer, or want of memory with every table as the contracts say; the main job ends with status 1,
-# tells of memory, and has printed nothing wrong till then; where the site book finds no room, that is its last line. Nothing is proved here: `rt try` builds and runs.
+# tells of memory, and has printed nothing wrong till then; where the site book finds no room, that is its last line. Nothing is proved
+# here: `rt try` builds and runs.
 set -eu
 cd "$(dirname "$0")/.."
 out=$(mktemp)
