@@ -1,83 +1,158 @@
--- The first cells of a book that is being read, as the tables hold them: those that are not read yet offer nothing.
-use Rattle.std.proofs.Common.{◌≡◌, ℕ, zero, suc, ◌-◌, ◌<◌, ◌≤◌, ◌↔◌, IsOk, OnOk, OnErr, List, [], ◌∷◌, ◌++◌, map, length, get_or, set, take, replicate, Ok, Err, Result, sym, refl, ap, ◌∙◌, inl, inr, arith}
-use Rattle.std.specs.Bool.{⊤}
-use Rattle.std.proofs.lemmas.Bool.{cases_lt, false≢true}
-use Rattle.std.proofs.lemmas.List.{take_all, take_at, length-take, length_push, map-set, get_or-map}
-use Rattle.bounded.specs.declared.Bounded.{Bounded}
-use Rattle.bounded.specs.Listed.{listed}
-use Rattle.sitelayout.specs.declared.Mark.{Mark}
+-- The row of a book that is being read and where its cells begin, as the tables hold them, and the cells that they hold at the end.
+use Rattle.std.specs.Prelude.{flat_map, min, IsTrue}
+use Rattle.std.proofs.Common.{◌≡◌, ℕ, zero, suc, ◌+◌, ◌-◌, ◌<◌, ◌≤◌, List, [], ◌∷◌, ◌++◌, length, get_or, map, take, drop, replicate, sym, refl, ap, ◌∙◌, append_assoc, append-nil, length-append, arith}
+use Rattle.std.proofs.lemmas.Grind.{flat_map-append}
+use Rattle.std.proofs.lemmas.List.{take_all, take_at, drop_at, length-take}
+use Rattle.std.proofs.lemmas.List.Concat.{length-flat_map}
 use Rattle.sitelayout.specs.declared.Move.{Move}
 use Rattle.sitelayout.specs.Layout.{padded}
+use Rattle.sitelayout.specs.Site.{Site, valid}
+use Rattle.siteverdict.specs.Counting.{moves_in}
+use Rattle.sitemodel.specs.Meaning.{cell_at, outcome_of}
+use Rattle.sitemodel.proofs.SiteLaws.{site_lawful}
+use Rattle.sitebook.specs.Tables.{between, cut}
 
--- the marks that there is room for
+-- what there is room for
 
--- a mark more, of which no more than those are kept
-pub take_push : (r : ℕ) (ms : List Mark) (m : Mark) → take r (take r ms ++ (m ∷ [])) ≡ take r (ms ++ (m ∷ []))
-take_push zero ms m = refl
-take_push (suc r) [] m = refl
-take_push (suc r) (x ∷ ms) m = ap (λ l. x ∷ l) (take_push r ms m)
+-- one more, of which no more than those are kept
+pub take_push : {X : Type 0} (r : ℕ) (xs : List X) (x : X) → take r (take r xs ++ (x ∷ [])) ≡ take r (xs ++ (x ∷ []))
+take_push zero xs x = refl
+take_push (suc r) [] x = refl
+take_push (suc r) (y ∷ xs) x = ap (λ l. y ∷ l) (take_push r xs x)
 
--- the cells
+copies : (n k e : ℕ) → replicate (min k n) e ≡ take n (replicate k e)
+copies zero k e =
+    let none : min k zero ≡ zero = omega arith in
+    ap (λ j. replicate j e) none
+copies (suc n) zero e =
+    let none : min zero (suc n) ≡ zero = omega arith in
+    ap (λ j. replicate j e) none
+copies (suc n) (suc k) e =
+    let more : min (suc k) (suc n) ≡ suc (min k n) = omega arith in
+    ap (λ j. replicate j e) more ∙ ap (λ l. e ∷ l) (copies n k e)
 
-abbrev pub firsts : ℕ → List (List Move) → List (List Move)
-firsts zero cs = []
-firsts (suc n) [] = [] ∷ firsts n []
-firsts (suc n) (c ∷ cs) = c ∷ firsts n cs
+-- filled up to k places, of which there are no more than n
+pub take_filled : (n k : ℕ) (xs : List ℕ) (e : ℕ) → take n xs ++ replicate (min k n - length (take n xs)) e ≡ take n (xs ++ replicate (k - length xs) e)
+take_filled zero k xs e =
+    let none : min k zero - zero ≡ zero = omega arith in
+    ap (λ j. replicate j e) none
+take_filled (suc n) k [] e =
+    let all : min k (suc n) - zero ≡ min k (suc n) = omega arith in
+    let those : k ≡ k - zero = omega arith in
+    ap (λ j. replicate j e) all ∙ copies (suc n) k e ∙ ap (λ j. take (suc n) (replicate j e)) those
+take_filled (suc n) k (x ∷ xs) e =
+    let left : min k (suc n) - suc (length (take n xs)) ≡ min (k - 1) n - length (take n xs) = omega arith in
+    let right : k - 1 - length xs ≡ k - suc (length xs) = omega arith in
+    ap (λ l. x ∷ l) (ap (λ j. take n xs ++ replicate j e) left ∙ take_filled n (k - 1) xs e ∙ ap (λ j. take n (xs ++ replicate j e)) right)
 
-pub firsts_none : (n : ℕ) → firsts n [] ≡ replicate n []
-firsts_none zero = refl
-firsts_none (suc n) = ap (λ l. [] ∷ l) (firsts_none n)
+-- the row
 
--- more cells that offer nothing change nothing
-pub firsts_filled : (n : ℕ) (cs : List (List Move)) (k : ℕ) → firsts n (cs ++ replicate k []) ≡ firsts n cs
-firsts_filled zero cs k = refl
-firsts_filled (suc n) [] zero = refl
-firsts_filled (suc n) [] (suc k) = ap (λ l. [] ∷ l) (firsts_filled n [] k)
-firsts_filled (suc n) (c ∷ cs) k = ap (λ l. c ∷ l) (firsts_filled n cs k)
+abbrev pub flat : List (List Move) → List Move
+flat cs = flat_map (λ c. c) cs
 
--- an outcome more in the last cell
-pub firsts-push : (n : ℕ) (cs : List (List Move)) (c : List Move) (m : Move) → length (c ++ (m ∷ [])) ≤ 8
-    → set (firsts n (cs ++ (c ∷ []))) (length cs) (take 8 (get_or (firsts n (cs ++ (c ∷ []))) (length cs) [] ++ (m ∷ []))) ≡ firsts n (cs ++ ((c ++ (m ∷ [])) ∷ []))
-firsts-push zero cs c m few = refl
-firsts-push (suc n) [] c m few = ap (λ l. l ∷ firsts n []) (take_all 8 (c ++ (m ∷ [])) few)
-firsts-push (suc n) (x ∷ cs) c m few = ap (λ l. x ∷ l) (firsts-push n cs c m few)
+pub flat-length : (cs : List (List Move)) → length (flat cs) ≡ moves_in cs
+flat-length cs = length-flat_map (λ c. c) cs
 
--- those of a whole book are its table
-pub firsts_whole : (n : ℕ) (cs : List (List Move)) → length cs ≤ n → firsts n cs ≡ padded n cs
-firsts_whole n [] few =
+flat_none : (n : ℕ) → flat (replicate n []) ≡ []
+flat_none zero = refl
+flat_none (suc n) = flat_none n
+
+-- cells that offer nothing add nothing to it
+pub flat_filled : (cs : List (List Move)) (n : ℕ) → flat (cs ++ replicate n []) ≡ flat cs
+flat_filled cs n = flat_map-append (λ c. c) cs (replicate n []) ∙ ap (λ l. flat cs ++ l) (flat_none n) ∙ append-nil (flat cs)
+
+-- an outcome more of the last cell is one more at its end
+pub flat-push : (cs : List (List Move)) (c : List Move) (m : Move) → flat (cs ++ ((c ++ (m ∷ [])) ∷ [])) ≡ flat (cs ++ (c ∷ [])) ++ (m ∷ [])
+flat-push cs c m =
+    flat_map-append (λ c. c) cs ((c ++ (m ∷ [])) ∷ [])
+    ∙ ap (λ l. flat cs ++ l) (append_assoc c (m ∷ []) [] ∙ sym (ap (λ l. l ++ (m ∷ [])) (append-nil c)))
+    ∙ sym (append_assoc (flat cs) (c ++ []) (m ∷ []))
+    ∙ ap (λ l. l ++ (m ∷ [])) (sym (flat_map-append (λ c. c) cs (c ∷ [])))
+
+-- where the cells begin
+
+-- in a row that holds r outcomes at most, the first at n
+abbrev pub starts_of : ℕ → ℕ → List (List Move) → List ℕ
+starts_of r n [] = []
+starts_of r n (c ∷ cs) = min r n ∷ starts_of r (n + length c) cs
+
+pub starts-length : (r n : ℕ) (cs : List (List Move)) → length (starts_of r n cs) ≡ length cs
+starts-length r n [] = refl
+starts-length r n (c ∷ cs) = ap suc (starts-length r (n + length c) cs)
+
+starts-append : (r n : ℕ) (cs ds : List (List Move)) → starts_of r n (cs ++ ds) ≡ starts_of r n cs ++ starts_of r (n + length (flat cs)) ds
+starts-append r n [] ds =
+    let same : n ≡ n + 0 = omega arith in
+    ap (λ k. starts_of r k ds) same
+starts-append r n (c ∷ cs) ds =
+    let same : n + length c + length (flat cs) ≡ n + length (c ++ flat cs) = omega (arith, length-append c (flat cs)) in
+    ap (λ l. min r n ∷ l) (starts-append r (n + length c) cs ds ∙ ap (λ k. starts_of r (n + length c) cs ++ starts_of r k ds) same)
+
+starts_none : (r n k : ℕ) → starts_of r n (replicate k []) ≡ replicate k (min r n)
+starts_none r n zero = refl
+starts_none r n (suc k) =
+    let same : n + 0 ≡ n = omega arith in
+    ap (λ l. min r n ∷ l) (ap (λ x. starts_of r x (replicate k [])) same ∙ starts_none r n k)
+
+-- cells that offer nothing begin at the end of the row
+pub starts_filled : (r : ℕ) (cs : List (List Move)) (k : ℕ) → starts_of r 0 (cs ++ replicate k []) ≡ starts_of r 0 cs ++ replicate k (length (take r (flat cs)))
+starts_filled r cs k =
+    let at : min r (0 + length (flat cs)) ≡ length (take r (flat cs)) = omega (arith, length-take r (flat cs)) in
+    starts-append r 0 cs (replicate k [])
+    ∙ ap (λ l. starts_of r 0 cs ++ l) (starts_none r (0 + length (flat cs)) k ∙ ap (replicate k) at)
+
+-- a cell's outcomes do not move where it begins
+pub starts-push : (r : ℕ) (cs : List (List Move)) (c d : List Move) → starts_of r 0 (cs ++ (c ∷ [])) ≡ starts_of r 0 (cs ++ (d ∷ []))
+starts-push r cs c d = starts-append r 0 cs (c ∷ []) ∙ sym (starts-append r 0 cs (d ∷ []))
+
+-- the cells of a whole book
+
+cut_none : (n : ℕ) (row : List Move) → cut n [] row ≡ replicate n []
+unfolding cut
+cut_none zero row = refl
+cut_none (suc n) row = ap (λ l. [] ∷ l) (cut_none n row)
+
+-- the part of a row between two others
+part : (before c after : List Move) (from to : ℕ) → from ≡ length before → to ≡ from + length c → take (to - from) (drop from (before ++ (c ++ after))) ≡ c
+part before c after from to first last =
+    ap (take (to - from)) (drop_at before (c ++ after) from (sym first)) ∙ take_at c after (to - from) (omega arith)
+
+-- they are those that were read
+pub cut_whole : (r n k : ℕ) (cs : List (List Move)) (before : List Move) → length before ≡ k → k + length (flat cs) ≤ r → length cs ≤ n → cut n (starts_of r k cs) (before ++ flat cs) ≡ padded n cs
+unfolding cut
+cut_whole r n k [] before at fits few =
     let same : n ≡ n - 0 = omega arith in
-    firsts_none n ∙ ap (λ k. replicate k []) same
-firsts_whole zero (c ∷ cs) few = absurd (omega arith)
-firsts_whole (suc n) (c ∷ cs) few =
-    let same : n - length cs ≡ suc n - suc (length cs) = omega arith in
-    ap (λ l. c ∷ l) (firsts_whole n cs (omega arith) ∙ ap (λ k. cs ++ replicate k []) same)
+    cut_none n (before ++ []) ∙ ap (λ j. replicate j []) same
+cut_whole r zero k (c ∷ cs) before at fits few = absurd (omega arith)
+cut_whole r (suc n) k (c ∷ []) before at fits few =
+    let long = length-append before (c ++ []) in
+    let one = part before c [] (min r k) (length (before ++ (c ++ []))) (omega (arith, at, fits)) (omega (arith, at, fits, long, length-append c [])) in
+    let same : n ≡ suc n - suc zero = omega arith in
+    ap (λ x. x ∷ cut n [] (before ++ (c ++ []))) one ∙ ap (λ l. c ∷ l) (cut_none n (before ++ (c ++ [])) ∙ ap (λ j. replicate j []) same)
+cut_whole r (suc n) k (c ∷ d ∷ cs) before at fits few =
+    let long = length-append c (flat (d ∷ cs)) in
+    let one = part before c (flat (d ∷ cs)) (min r k) (min r (k + length c)) (omega (arith, at, fits)) (omega (arith, at, fits, long)) in
+    let rest : cut n (starts_of r (k + length c) (d ∷ cs)) (before ++ (c ++ flat (d ∷ cs))) ≡ padded n (d ∷ cs) =
+    ap (cut n (starts_of r (k + length c) (d ∷ cs))) (sym (append_assoc before c (flat (d ∷ cs))))
+    ∙ cut_whole r n (k + length c) (d ∷ cs) (before ++ c) (omega (arith, at, length-append before c)) (omega (arith, fits, long)) (omega arith) in
+    let same : n - suc (length cs) ≡ suc n - suc (suc (length cs)) = omega arith in
+    ap (λ x. x ∷ cut n (starts_of r (k + length c) (d ∷ cs)) (before ++ (c ++ flat (d ∷ cs)))) one
+    ∙ ap (λ l. c ∷ l) (rest ∙ ap (λ j. (d ∷ cs) ++ replicate j []) same)
 
--- the cells of the tables, as the lists that they hold
+-- a cell of the book is what stands between its beginning and the next
+pub cut_at : (n : ℕ) (starts : List ℕ) (row : List Move) (k : ℕ) → k < n → get_or (cut n starts row) k [] ≡ between starts row k
+unfolding cut
+cut_at zero starts row k few = absurd (omega arith)
+cut_at (suc n) [] row zero few =
+    let none : length row - length row ≡ 0 = omega arith in
+    sym (ap (λ j. take j (drop (length row) row)) none)
+cut_at (suc n) [] row (suc k) few = cut_at n [] row k (omega arith)
+cut_at (suc n) (from ∷ starts) row zero few = refl
+cut_at (suc n) (from ∷ starts) row (suc k) few =
+    let same : suc (k + 1) ≡ suc k + 1 = omega arith in
+    cut_at n starts row k (omega arith) ∙ ap (λ j. take (get_or (from ∷ starts) j (length row) - get_or starts k (length row)) (drop (get_or starts k (length row)) row)) same
 
-listed_none : (n : ℕ) (c : Bounded Move 8) → listed c ≡ [] → map listed (replicate n c) ≡ replicate n []
-listed_none zero c e = refl
-listed_none (suc n) c e = λ i. e i ∷ listed_none n c e i
-
-pub all_none : (n size : ℕ) (old new : List (Bounded Move 8)) (c : Bounded Move 8) → old ≡ [] → size ≡ length old → new ≡ take n old ++ replicate (n - size) c → listed c ≡ [] → map listed new ≡ replicate n []
-all_none n size old new c none count is e =
-    let whole : n - size ≡ n = omega (arith, count, ap length none) in
-    let nothing : take n old ≡ [] = take_all n old (omega (arith, ap length none)) ∙ none in
-    ap (map listed) (is ∙ (λ i. nothing i ++ replicate (whole i) c)) ∙ listed_none n c e
-
-most_listed : (c : Bounded Move 8) → length (listed c) ≤ 8
-most_listed c = omega (arith, length-take c.len c.places, c.fits)
-
--- a cell takes an outcome more where it has not eight yet
-pub added : (old new : Bounded Move 8) (m : Move) (r : Result ⊤ Move) → (IsOk r ↔ (length (listed old) < 8)) → OnOk r (listed new ≡ listed old ++ (m ∷ [])) → OnErr r (new ≡ old) → listed new ≡ take 8 (listed old ++ (m ∷ []))
-added old new m (Ok x) room more full = more ∙ sym (take_all 8 (listed old ++ (m ∷ [])) (omega (arith, room.0 refl, length_push (listed old) m)))
-added old new m (Err x) room more full =
-    elim (cases_lt (length (listed old)) 8) [
-      | inl few ↦ absurd (false≢true (room.1 few))
-      | inr many ↦ ap listed full ∙ sym (take_at (listed old) (m ∷ []) 8 (omega (arith, most_listed old)))
-    ]
-
-pub added_at : (cells : List (Bounded Move 8)) (k : ℕ) (old new : Bounded Move 8) (m : Move) → k < length cells → old ≡ get_or cells k old → listed new ≡ take 8 (listed old ++ (m ∷ []))
-    → map listed (set cells k new) ≡ set (map listed cells) k (take 8 (get_or (map listed cells) k [] ++ (m ∷ [])))
-added_at cells k old new m inside there is =
-    map-set listed cells k new
-    ∙ ap (set (map listed cells) k) (is ∙ ap (λ l. take 8 (l ++ (m ∷ []))) (ap listed there ∙ sym (get_or-map listed cells k old [] inside)))
+-- the outcomes of a valid book are eight at most
+pub few_at : (b : Site) (s a : ℕ) → IsTrue (valid b) → take 8 (map outcome_of (cell_at b s a)) ≡ map outcome_of (cell_at b s a)
+few_at b s a sound =
+    take_all 8 (map outcome_of (cell_at b s a)) ((site_lawful b sound).moves.few s a)

@@ -1,9 +1,26 @@
--- What the tables say that a book is stored in.
-use Rattle.std.specs.Prelude.{map, vec_items}
-use Rattle.bounded.specs.Listed.{listed}
+-- What the tables say that a book is stored in: the outcomes of all cells stand in one row, and where each begins in another table.
+use Rattle.std.specs.Prelude.{ℕ, zero, suc, ◌+◌, ◌-◌, ◌*◌, List, [], ◌∷◌, length, take, drop, vec_items, slice_index_or}
+use Rattle.sitelayout.specs.declared.Move.{Move}
 use Rattle.sitelayout.specs.Site.{Site}
 use Rattle.sitebook.specs.declared.tables.Tables.{Tables}
 
+-- what stands in the row from where cell k begins to where the next does; one that is not listed begins at the end
+abbrev pub between : List ℕ → List Move → ℕ → List Move
+between starts row k =
+    let from = slice_index_or starts k (length row) in
+    take (slice_index_or starts (k + 1) (length row) - from) (drop from row)
+
+-- the first n cells
+unfoldable pub cut : ℕ → List ℕ → List Move → List (List Move)
+cut zero starts row = []
+cut (suc n) [] row = [] ∷ cut n [] row
+cut (suc n) (from ∷ starts) row =
+    take (slice_index_or starts 0 (length row) - from) (drop from row) ∷ cut n starts row
+
 abbrev pub site_of : Tables → Site
-site_of t =
-    record { labels = t.labels; actions = t.actions; marks = vec_items t.marks; cells = map listed (vec_items t.cells) }
+site_of t = record {
+  labels = t.labels;
+  actions = t.actions;
+  marks = vec_items t.marks;
+  cells = cut (length (vec_items t.marks) * t.actions) (vec_items t.starts) (vec_items t.moves);
+}

@@ -58,7 +58,7 @@ impl SiteBook {
             return &[];
         }
         let k = s as usize * self.tables.actions as usize + a as usize;
-        self.tables.cells.get(k).map_or(&[], |cell| cell.as_slice())
+        self.tables.cell(k)
     }
 }
 

@@ -1,39 +1,35 @@
 // The tables of a book while it is being stored, word by word. All that they need is allocated before the first word.
-ghost use Rattle.std.specs.Prelude.{◌≡◌, IfOk};
-ghost use Rattle.sitebook.specs.Storing.{held_by, nothing, put_of};
+ghost use Rattle.std.specs.Prelude.{◌≡◌, IfOk, vec_capacity};
+ghost use Rattle.sitebook.specs.Storing.{held_by, nothing, put_of, filled};
 
 use crate::tables::Tables;
-use bounded::Bounded;
 use sitelayout::{Kind, Mark, entry_in, head_in, mask_in, move_in, worth_in};
 use siteverdict::Counts;
 use std::alloc::{AllocError, Global};
 
-// `mask` is that of the state whose reward is due, and `at` the place of the cell whose outcomes are.
+// `mask` is that of the state whose reward is due.
 #[derive(Drop)]
 pub struct Store {
     pub tables: Tables,
     pub mask: u32,
-    pub at: usize,
 }
 
 impl Store {
-    // Nothing yet, with room for all of the book: nothing is offered.
+    // Nothing yet, with room for all of the book.
     pub fn with_room(heap: Global, counts: Counts) -> Result<Store, AllocError>
-        ensures { IfOk result (λ s. held_by s ≡ nothing counts.head) }
+        ensures { IfOk result (λ s. held_by s ≡ nothing counts) }
     {
         let states = counts.head.states as usize;
-        let count = states * counts.head.actions as usize;
-        let mut cells = Vec::with_capacity(heap, count)?;
-        cells.resize(count, Bounded::new())?;
+        let cells = states * counts.head.actions as usize;
         Ok(Store {
             tables: Tables {
                 labels: 0,
                 actions: 0,
                 marks: Vec::with_capacity(heap, states)?,
-                cells,
+                starts: Vec::with_capacity(heap, cells)?,
+                moves: Vec::with_capacity(heap, counts.moves as usize)?,
             },
             mask: 0,
-            at: 0,
         })
     }
 
@@ -61,15 +57,27 @@ impl Store {
             Ok(Kind::Entry) => {
                 let entry = entry_in(word);
                 let row = entry.state as usize * self.tables.actions as usize;
-                self.at = row + entry.action as usize;
+                let place = row + entry.action as usize;
+                let end = self.tables.moves.len() as u32;
+                fill(&mut self.tables.starts, place + 1, end);
             }
             Ok(Kind::Move) => {
-                if let Some(cell) = self.tables.cells.get_mut(self.at) {
-                    // There is room: an entry has at most eight outcomes.
-                    let _ = cell.push(move_in(word));
+                // There is room: the outcomes are counted.
+                if self.tables.moves.len() < self.tables.moves.capacity() {
+                    self.tables.moves.push_reserved(move_in(word));
                 }
             }
             _ => {}
         }
+    }
+}
+
+// The beginnings of so many cells, as far as there is room: those that are missing are at `end`.
+fn fill(starts: &mut Vec<u32>, cells: usize, end: u32)
+    ensures begun { starts.new.items ≡ filled (vec_capacity starts.old) cells end starts.old.items }
+    ensures room { vec_capacity starts.new ≡ vec_capacity starts.old }
+{
+    while starts.len() < cells.min(starts.capacity()) {
+        starts.push_reserved(end);
     }
 }

@@ -35,7 +35,7 @@ pub fn read_site(heap: Global, bytes: &[u8]) -> Result<SiteBook, Unread>
 // book is missing, so nothing is refused.
 fn stored(mut store: Store, bytes: &[u8], counts: Counts) -> Result<SiteBook, Fault>
     requires known { (b : Site) × ((reading site_format bytes.now ≡ got b) × Counted counts b) }
-    requires unwritten { held_by store ≡ nothing counts.head }
+    requires unwritten { held_by store ≡ nothing counts }
     ensures { MatchResult result (λ k. reading site_format bytes.now ≡ got (contents k)) (λ _. ⊥) }
 {
     let mut rest = bytes;
