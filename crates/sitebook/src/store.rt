@@ -62,7 +62,7 @@ impl Store {
                 fill(&mut self.tables.starts, place + 1, end);
             }
             Ok(Kind::Move) => {
-                // There is room: the outcomes are counted.
+                // There is room: the verdict counted the outcomes.
                 if self.tables.moves.len() < self.tables.moves.capacity() {
                     self.tables.moves.push_reserved(move_in(word));
                 }
@@ -72,7 +72,8 @@ impl Store {
     }
 }
 
-// The beginnings of so many cells, as far as there is room: those that are missing are at `end`.
+// The beginnings of so many cells, as far as there is room: those that are missing are at `end`. A loop, since the contract of `resize`
+// does not say that the room stays.
 fn fill(starts: &mut Vec<u32>, cells: usize, end: u32)
     ensures begun { starts.new.items ≡ filled (vec_capacity starts.old) cells end starts.old.items }
     ensures room { vec_capacity starts.new ≡ vec_capacity starts.old }
