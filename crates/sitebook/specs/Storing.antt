@@ -11,7 +11,7 @@ use Rattle.sitelayout.specs.OneWord.{head_in, mask_in, worth_in, entry_in, move_
 use Rattle.sitelayout.specs.Site.{Site}
 use Rattle.siteverdict.specs.declared.Counts.{Counts}
 use Rattle.sitebook.specs.declared.store.Store.{Store}
-use Rattle.sitebook.specs.Tables.{cut}
+use Rattle.sitebook.specs.Tables.{book_in}
 
 -- the tables so far, how many states, cells and outcomes there is room for, and a mask whose reward is due
 pub record Held : Type 0 where
@@ -93,9 +93,4 @@ put_of h w = put_as (kind_of w) h w
 
 -- the book that the tables hold
 abbrev pub book_of : Held → Site
-book_of h = record {
-  labels = h.labels;
-  actions = h.actions;
-  marks = h.marks;
-  cells = cut (length h.marks * h.actions) h.starts h.moves;
-}
+book_of h = book_in h.labels h.actions h.marks h.starts h.moves

@@ -4,8 +4,8 @@ ghost use Rattle.std.specs.Prelude.{◌^◌, ◌<◌, vec_capacity};
 use sitelayout::{Mark, Move};
 
 // The outcomes of all cells stand in one row: those of action `a` in state `s` from `starts[k]` on, with `k = s * actions + a`, to where the
-// next cell begins. A cell that `starts` lacks begins at the end of the row. A book takes 4 bytes for each cell and 4 for each outcome: a
-// list of eight for each cell would take as much where all are full, and many times as much where few are.
+// next cell begins. A cell that `starts` lacks begins at the end of the row. A book takes 4 bytes for each cell and 4 for each outcome; a
+// list of eight for each cell would take a tenth more where all are full, and many times as much where few are.
 #[derive(Drop)]
 pub struct Tables {
     pub labels: u32,
